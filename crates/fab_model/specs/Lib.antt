@@ -1,0 +1,15 @@
+pub use Rattle.fab_graph.specs.Walks
+pub use Rattle.fab_text.specs.Readings
+pub mod Description
+pub mod InOrder
+pub mod Records
+pub mod Faults
+pub mod FirstFault
+pub mod Topology
+pub mod WellFormed
+pub mod Indexed
+pub mod Connected
+pub mod Built
+pub mod Written
+pub mod Without
+pub mod Laws
