@@ -13,7 +13,9 @@ struct Entry {
     content: Vec<u8>,
 }
 
-/// A shelf in memory, for tests and for what stands on none. Named fetches fail.
+/// A shelf in memory, which tells each content that was added. Every fetch takes a number, counted from 1,
+/// whatever it answers. It fails exactly where its number was named or its name was never added. One count
+/// of failures serves all names.
 #[derive(Drop)]
 pub struct MemoryShelf {
     entries: Vec<Entry>,
@@ -32,12 +34,14 @@ impl Model for MemoryShelf {
     ghost view = { λ s. record { entries = map (λ entry. record { name = string_bytes entry.name; content = entry.content.items }) s.entries.items; failing = s.failing.items; fetches = s.fetches; faults = s.faults } };
 }
 
+/// Whether a fetch is named to fail.
 fn is_named(failing: &[u32], call: u64) -> bool
     ensures { result ≡ list_any (λ named. named == call) failing.now }
 {
     failing.iter().any(|named| u64::from(*named) == call)
 }
 
+/// The newest content of a name.
 fn newest<'a>(entries: &'a [Entry], name: &str) -> Option<&'a [u8]>
     ensures { option_map (λ content. content.now) result ≡ content_in (map (λ entry. record { name = string_bytes entry.name; content = entry.content.items }) entries.now) name.now }
 {
@@ -78,7 +82,7 @@ impl MemoryShelf {
         Ok(())
     }
 
-    /// Names a fetch that is to fail, counted from 1.
+    /// Names a fetch that is to fail, by its number.
     pub fn fail(&mut self, call: u32) -> Result<(), AllocError>
         ensures ok { OnOk result (self.new ≡ record self.old { failing = self.old.failing ++ call ∷ [] }) }
         ensures err { OnErr result (self.new ≡ self.old) }

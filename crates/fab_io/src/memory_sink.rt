@@ -12,7 +12,8 @@ struct Failing {
     kept: usize,
 }
 
-/// A sink in memory. Named puts fail.
+/// A sink in memory, which tells all its bytes. Every put of a piece that isn't empty takes a number, counted
+/// from 1, whatever it answers. It fails exactly where its number was named.
 #[derive(Drop)]
 pub struct MemorySink {
     bytes: Vec<u8>,
@@ -58,8 +59,8 @@ impl MemorySink {
         }
     }
 
-    /// Names a put that is to fail after keeping at most so many bytes of its piece. Puts of a piece that
-    /// isn't empty are counted, from 1. Where a put is named twice, the newest naming counts.
+    /// Names a put that is to fail, by its number, once it has kept at most so many bytes of its piece. Where
+    /// a put is named twice, the newest naming counts.
     pub fn fail(&mut self, call: u32, kept: usize) -> Result<(), AllocError>
         ensures ok { OnOk result (self.new ≡ record self.old { failing = self.old.failing ++ record { call = call; kept = kept } ∷ [] }) }
         ensures err { OnErr result (self.new ≡ self.old) }

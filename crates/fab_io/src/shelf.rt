@@ -15,16 +15,17 @@ pub enum FetchFault {
     Memory(AllocError),
 }
 
-/// Contents by name.
+/// Contents by name, as files.
 pub trait Shelf {
-    /// The content of each name, where the shelf tells it.
+    /// The content of each name, given by its bytes, where the shelf tells it.
     ghost told: { Self → List ℕ → Option (List ℕ) };
 
-    /// How often a fetch of each name has failed.
+    /// A count for each name, which never falls, and rises where a fetch of the name fails.
     ghost faults: { Self → List ℕ → ℕ };
 
-    /// Puts the whole content of a name into a buffer, in place of what the buffer holds. It answers false,
-    /// and leaves the buffer empty, where the content is longer than the limit.
+    /// Puts the whole content of a name into a buffer, in place of what the buffer holds, and answers true.
+    /// It answers false where the content has more bytes than the limit, which is at most 512 MiB. Then, and
+    /// after a fault, the buffer is empty.
     fn fetch(&mut self, name: &str, limit: usize, into: &mut Vec<u8>) -> Result<bool, FetchFault>
         requires { limit ≤ 536870912 }
         ensures content { Fetches (told self.old name.now) limit result into.new.items }

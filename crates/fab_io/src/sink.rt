@@ -20,10 +20,10 @@ pub trait Sink {
     /// The bytes put so far, where the sink tells them.
     ghost told: { Self → Option (List ℕ) };
 
-    /// How often a put has failed.
+    /// A count that never falls, and rises where a put fails.
     ghost faults: { Self → ℕ };
 
-    /// Appends a piece.
+    /// Appends a piece. An empty one changes nothing.
     fn put(&mut self, piece: &[u8]) -> Result<(), PutFault>
         ensures bytes { Puts piece.now (told self.old) (told self.new) result }
         ensures nothing { piece.now ≡ [] → (result ≡ Ok tt) × (self.new ≡ self.old) }

@@ -1,0 +1,8 @@
+pub mod Components
+pub mod Searching
+pub mod Reaching
+pub mod Starts
+pub mod Hops
+pub mod First
+pub mod LaneFaults
+pub mod Free

@@ -1,0 +1,93 @@
+//! The checker of plans. It stands on the fabric and the tables alone.
+#![tactic(auto)]
+
+ghost use Rattle.std.specs.Prelude.{◌≡◌, ◌↔◌, IfOk, None};
+ghost use Rattle.fab_tables.specs.Fit.{PlanFits};
+ghost use Rattle.fab_tables.specs.Certified.{Reaches, IsCertified};
+ghost use Rattle.fab_tables.specs.Verdicts.{IsVerdict};
+ghost use Rattle.fab_check.specs.Free.{IsFreeOfDeadlock};
+
+mod components;
+mod hops;
+mod lanes;
+mod reaching;
+mod starts;
+
+use crate::components::Components;
+use crate::lanes::first_lane_fault;
+use crate::reaching::first_unreached;
+use crate::starts::{Start, starts_of};
+use fab_model::Fabric;
+use fab_tables::{Plan, Verdict};
+use std::alloc::{AllocError, Global};
+use std::marker::Model;
+
+/// Checks plans of one fabric. It is seen as the fabric.
+#[derive(Drop)]
+pub struct Checker<'f> {
+    fabric: &'f Fabric,
+    components: Components<'f>,
+    // where the packets of the terminals start, by switch and port
+    starts: Vec<Start>,
+    // room for a mark at each switch: that its route to the LID under check is delivered
+    delivered: Vec<bool>,
+}
+
+impl<'f> Model for Checker<'f> {
+    ghost use Rattle.std.specs.Prelude.{◌≡◌, length};
+    ghost use Rattle.fab_model.specs.Topology.{Topology};
+    ghost use Rattle.fab_check.specs.Starts.{AreStarts};
+
+    ghost Value = { Topology };
+
+    ghost view = { λ c. c.fabric.now };
+
+    ghost invariant = { λ c. (c.components ≡ c.fabric.now) × AreStarts c.fabric.now c.starts.items × (length c.delivered.items ≡ length c.fabric.now.switches) };
+}
+
+impl<'f> Checker<'f> {
+    /// A checker of plans for this fabric. It has all the memory that its checks need.
+    pub fn new(alloc: Global, fabric: &'f Fabric) -> Result<Checker<'f>, AllocError>
+        ensures { IfOk result (λ c. c ≡ fabric.now) }
+    {
+        let components = Components::of(alloc, fabric)?;
+        let starts = starts_of(alloc, fabric)?;
+        let delivered = vec![in alloc; false; fabric.switches() as usize]?;
+        Ok(Checker {
+            fabric,
+            components,
+            starts,
+            delivered,
+        })
+    }
+
+    /// The verdict on a plan: the first fault in the fixed order, or that there is none. The kept numbers of
+    /// a `NotRising` are those of its two virtual channels. It takes no memory.
+    pub fn check(&mut self, plan: &Plan) -> Verdict
+        requires { PlanFits self.old plan.now }
+        ensures verdict { IsVerdict self.old plan.now.tables plan.now.lanes result }
+        // Lanes is answered exactly of certified plans.
+        ensures certified { (result ≡ Verdict.Lanes) ↔ IsCertified self.old plan.now }
+        // Routes is answered exactly of plans without lanes whose routes all reach.
+        ensures reaches { (result ≡ Verdict.Routes) ↔ ((plan.now.lanes ≡ None) × Reaches self.old plan.now.tables) }
+        // Where it is Lanes, no packets wait for each other.
+        ensures free { result ≡ Verdict.Lanes → IsFreeOfDeadlock self.old plan.now }
+        ensures fabric { self.new ≡ self.old }
+    {
+        let tables = &plan.tables;
+        let unreached = first_unreached(self.fabric, tables, &self.components, &mut self.delivered);
+        match (unreached, &plan.lanes) {
+            (Some(fault), _) => fault,
+            (None, None) => Verdict::Routes,
+            (None, Some(lanes)) => {
+                first_lane_fault(
+                    self.fabric,
+                    tables,
+                    lanes,
+                    &self.components,
+                    &self.starts,
+                ).unwrap_or(Verdict::Lanes)
+            }
+        }
+    }
+}

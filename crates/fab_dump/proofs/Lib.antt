@@ -1,0 +1,10 @@
+pub mod Examples
+pub mod FieldNumbers
+pub mod FieldParts
+pub mod Marks
+pub mod TableRows
+pub mod AfterRows
+pub mod AfterHeads
+pub mod Orderly
+pub mod PlansFit
+pub mod DumpRead

@@ -1,0 +1,16 @@
+use Rattle.std.proofs.Common.{◌∙◌, sym, ap, arith, false, ◌<◌, length, replicate}
+use Rattle.std.proofs.lemmas.List.{get_or_read}
+use Rattle.fab_dump.proofs.AfterHeads.{after_table_head, table_new}
+use Rattle.fab_dump.proofs.reader.PlanReader.open_table.Goals as goal
+
+pub returns : goal.returns
+returns c = λ f s stands orderly.
+    let switch = c.args.switch.0 in
+    let blocks = c.args.self.now.table_blocks.items in
+    let within : switch < length blocks = omega (arith, c.requires.switch, c.requires.fits.table_marks) in
+    let mark = get_or_read blocks switch c.index.result.now within c.index.ensures false in
+    let new = sym (stands.tables switch c.requires.switch) ∙ sym mark ∙ c.if-index.false in (
+      _,
+      table_new f c.args.line s switch new,
+      after_table_head c.args.fabric.now f s c.args.self.now c.args.switch c.fill.new.self stands orderly new c.requires.switch (c.fill.ensures.items (λ y same. same) ∙ ap (λ n. replicate n false) c.args.self.now.rows.ok.0),
+    )

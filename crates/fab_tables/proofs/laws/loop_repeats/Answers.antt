@@ -1,0 +1,5 @@
+use Rattle.fab_tables.proofs.LoopRepeats
+use Rattle.fab_tables.proofs.laws.loop_repeats.Goals as goal
+
+pub returns : goal.returns
+returns c = LoopRepeats.loop_repeats

@@ -1,0 +1,5 @@
+use Rattle.fab_tables.proofs.LanesChange
+use Rattle.fab_tables.proofs.laws.one_pair_changes.Goals as goal
+
+pub returns : goal.returns
+returns c = LanesChange.one_pair_changes

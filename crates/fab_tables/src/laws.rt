@@ -1,0 +1,67 @@
+ghost use Rattle.fab_tables.specs.Laws.{LoopRepeats, LoopIsLong, OneEntryChanges, OneLevelChanges, OneLaneChanges, OnePairChanges, OneNumberChanges, OneVerdict, LanesIsCertified, RoutesReaches, RisingIsFreeOfDeadlock, PlainAgrees};
+ghost use Rattle.fab_tables.specs.Reading.{ReadingAgrees};
+
+/// A set changes one entry and no other.
+pub fn one_entry_changes()
+    ensures { OneEntryChanges }
+{}
+
+/// A set changes one level and no other.
+pub fn one_level_changes()
+    ensures { OneLevelChanges }
+{}
+
+/// A set changes one lane of a general map and no other.
+pub fn one_lane_changes()
+    ensures { OneLaneChanges }
+{}
+
+/// A set changes the map of one pair of ports and no other lane.
+pub fn one_pair_changes()
+    ensures { OnePairChanges }
+{}
+
+/// A set changes one number and no other.
+pub fn one_number_changes()
+    ensures { OneNumberChanges }
+{}
+
+/// A route is a loop exactly where a switch repeats.
+pub fn loop_repeats()
+    ensures { LoopRepeats }
+{}
+
+/// A loop has as many channels as there are switches.
+pub fn loop_is_long()
+    ensures { LoopIsLong }
+{}
+
+/// A plan has one verdict.
+pub fn one_verdict()
+    ensures { OneVerdict }
+{}
+
+/// The verdict is `Lanes` exactly of certified plans.
+pub fn lanes_is_certified()
+    ensures { LanesIsCertified }
+{}
+
+/// The verdict is `Routes` exactly of plans without lanes whose routes all reach.
+pub fn routes_reaches()
+    ensures { RoutesReaches }
+{}
+
+/// Where the numbers rise, no packets wait for each other.
+pub fn rising_is_free_of_deadlock()
+    ensures { RisingIsFreeOfDeadlock }
+{}
+
+/// Without maps of pairs, what is said of terminals is what is said of sources.
+pub fn plain_agrees()
+    ensures { PlainAgrees }
+{}
+
+/// The lanes with which a plan is read are what the functions on reading say.
+pub fn reading_agrees()
+    ensures { ReadingAgrees }
+{}

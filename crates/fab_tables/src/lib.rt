@@ -1,0 +1,30 @@
+//! Forwarding tables, service levels and lane maps, following, and what a check of a plan answers.
+#![tactic(auto)]
+
+mod columns;
+mod end;
+mod following;
+mod lanes;
+mod laws;
+mod level_byte;
+mod pairs;
+mod plan;
+mod tables;
+#[cfg(test)]
+mod tests;
+mod tree;
+mod verdict;
+
+pub use columns::Columns;
+pub use end::End;
+pub use following::{Following, follow};
+pub use lanes::{Lanes, PairFault, PairRow};
+pub use laws::{
+    lanes_is_certified, loop_is_long, loop_repeats, one_entry_changes, one_lane_changes,
+    one_level_changes, one_number_changes, one_pair_changes, one_verdict, plain_agrees,
+    reading_agrees, rising_is_free_of_deadlock, routes_reaches,
+};
+pub use plan::Plan;
+pub use tables::Tables;
+pub use tree::Tree;
+pub use verdict::{Verdict, VirtualChannel};

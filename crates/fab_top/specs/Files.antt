@@ -1,0 +1,40 @@
+-- What the files of the words say. What can't be taken is refused with a text.
+use Rattle.std.specs.Prelude.{ℕ, List, length, Result, Ok, Err, nat_lt, if◌then◌else◌}
+use Rattle.fab_text.specs.Readings.{◌>>=◌}
+use Rattle.fab_model.specs.Topology.{Topology}
+use Rattle.fab_model.specs.Built.{built}
+use Rattle.fab_netdiscover.specs.Reading.{records_in}
+use Rattle.fab_tables.specs.declared.plan.Plan.{Plan}
+use Rattle.fab_dump.specs.declared.fault.PlanFault.{PlanFault}
+use Rattle.fab_dump.specs.declared.fault.PlanFault.TheVariants.{NotBuilt}
+use Rattle.fab_dump.specs.Reading.{plan_of}
+use Rattle.fab_dump.specs.Staged.{is_plan_text}
+use Rattle.fab_top.specs.FaultTexts.{too_long_text, read_fault_text, fabric_fault_text, plan_fault_text}
+
+-- the greatest lengths in bytes
+abbrev pub fabric_limit : ℕ
+fabric_limit = 67108864
+
+abbrev pub plan_limit : ℕ
+plan_limit = 536870912
+
+-- a fault by its text
+abbrev pub by_text : {X E : Type 0} → (E → List ℕ) → Result X E → Result X (List ℕ)
+by_text text (Ok x) = Ok x
+by_text text (Err fault) = Err (text fault)
+
+-- the reading of a file that is not too long
+abbrev pub within : {X : Type 0} → ℕ → List ℕ → List ℕ → Result X (List ℕ) → Result X (List ℕ)
+within limit name bytes read = if nat_lt limit (length bytes) then Err (too_long_text name) else read
+
+-- the fabric that a file of this name says, and the plan
+abbrev pub fabric_in : List ℕ → List ℕ → Result Topology (List ℕ)
+fabric_in name bytes = within fabric_limit name bytes (
+    by_text (read_fault_text name) (records_in bytes) >>= λ records. by_text (fabric_fault_text name) (built records))
+
+-- of the texts of plans only plain dumps are read yet
+unfoldable pub plan_read : Topology → List ℕ → Result Plan PlanFault
+plan_read t bytes = if is_plan_text bytes then Err NotBuilt else plan_of t bytes
+
+abbrev pub plan_in : Topology → List ℕ → List ℕ → Result Plan (List ℕ)
+plan_in t name bytes = within plan_limit name bytes (by_text (plan_fault_text name) (plan_read t bytes))

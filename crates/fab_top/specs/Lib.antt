@@ -1,0 +1,15 @@
+pub mod Words
+pub mod ReadWords
+pub mod Usage
+pub mod Answer
+pub mod Texts
+pub mod FaultTexts
+pub mod Files
+pub mod Seen
+pub mod Answers
+pub mod Headline
+pub mod Outputs
+pub mod Taking
+pub mod Ran
+pub mod Outcomes
+pub mod Laws

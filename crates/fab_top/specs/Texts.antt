@@ -1,0 +1,80 @@
+-- The texts of answers. Each ends with a line feed. GUIDs have sixteen hexadecimal digits, LIDs four, ports
+-- three decimal digits, lanes two; other numbers are decimal.
+use Rattle.std.specs.Prelude.{ℕ, ◌<◌, List, [], ◌++◌, Option, None, Some, slice_get, codes, decimal}
+use Rattle.fab_model.specs.declared.rows.ChannelRow.{ChannelRow}
+use Rattle.fab_model.specs.Topology.{Topology, guid_of}
+use Rattle.fab_tables.specs.declared.end.End.{End}
+use Rattle.fab_tables.specs.declared.end.End.TheVariants.{Delivered, NoEntry, DeadPort, Astray, Loop}
+use Rattle.fab_tables.specs.declared.verdict.Verdict.{Verdict}
+use Rattle.fab_tables.specs.declared.verdict.Verdict.TheVariants.{Routes, Lanes, Unreached, NoLevel, BadLane, NoNumber, NotRising}
+use Rattle.fab_tables.specs.declared.verdict.VirtualChannel.{VirtualChannel}
+use Rattle.fab_dump.specs.Writing.{hex4, hex16, port3, two}
+
+-- a switch's GUID; a channel by its switch and port; a virtual channel with its lane
+abbrev pub guid_text : Topology → ℕ → List ℕ
+guid_text t s = hex16 (guid_of t s)
+
+abbrev pub channel_row_text : Topology → Option ChannelRow → List ℕ
+channel_row_text t None = []
+channel_row_text t (Some row) = guid_text t row.tail.0 ++ codes " " ++ port3 row.port
+
+abbrev pub channel_text : Topology → ℕ → List ℕ
+channel_text t c = channel_row_text t (slice_get t.channels c)
+
+abbrev pub on_lane_text : Topology → ℕ → ℕ → List ℕ
+on_lane_text t c lane = channel_text t c ++ codes " " ++ two lane
+
+abbrev pub virtual_text : Topology → VirtualChannel → List ℕ
+virtual_text t v = on_lane_text t v.channel.0 v.lane
+
+-- ---- verdicts
+
+abbrev pub ok_routes : List ℕ
+ok_routes = codes "ok: routes\n"
+
+abbrev pub ok_lanes : List ℕ
+ok_lanes = codes "ok: routes and lanes\n"
+
+abbrev pub end_text : End → List ℕ
+end_text Delivered = codes "delivered"
+end_text NoEntry = codes "no entry"
+end_text DeadPort = codes "dead port"
+end_text Astray = codes "astray"
+end_text Loop = codes "loop"
+
+-- what is wrong on the way from a switch to a LID
+abbrev pub from_front : Topology → ℕ → ℕ → List ℕ
+from_front t lid s = codes "no: lid " ++ hex4 lid ++ codes " from switch " ++ guid_text t s ++ codes ": "
+
+abbrev pub from_text : Topology → ℕ → ℕ → List ℕ → List ℕ
+from_text t lid s what = from_front t lid s ++ what ++ codes "\n"
+
+abbrev pub numbered_text : Topology → VirtualChannel → ℕ → List ℕ
+numbered_text t v n = virtual_text t v ++ codes " number " ++ decimal n
+
+-- what is wrong
+abbrev pub fault_text : Topology → Verdict → List ℕ
+fault_text t Routes = []
+fault_text t Lanes = []
+fault_text t (Unreached lid s end) = end_text end
+fault_text t (NoLevel lid source) = codes "no level"
+fault_text t (BadLane lid source at) = codes "bad lane at switch " ++ guid_text t at.0
+fault_text t (NoNumber lid source at) = codes "no number at " ++ virtual_text t at
+fault_text t (NotRising lid source first second first_number second_number) =
+    numbered_text t first first_number ++ codes " is not below " ++ numbered_text t second second_number
+
+abbrev pub verdict_text : Topology → Verdict → List ℕ
+verdict_text t Routes = ok_routes
+verdict_text t Lanes = ok_lanes
+verdict_text t (Unreached lid s end) = from_text t lid.0 s.0 (end_text end)
+verdict_text t (NoLevel lid source) = from_text t lid.0 source.0 (fault_text t (NoLevel lid source))
+verdict_text t (BadLane lid source at) = from_text t lid.0 source.0 (fault_text t (BadLane lid source at))
+verdict_text t (NoNumber lid source at) = from_text t lid.0 source.0 (fault_text t (NoNumber lid source at))
+verdict_text t (NotRising lid source first second first_number second_number) =
+    from_text t lid.0 source.0 (fault_text t (NotRising lid source first second first_number second_number))
+
+-- the lanes that it names have at most two digits
+abbrev pub HasShortLanes : Verdict → Type 0
+HasShortLanes (NoNumber lid source at) = at.lane < 100
+HasShortLanes (NotRising lid source first second first_number second_number) = (first.lane < 100) × (second.lane < 100)
+HasShortLanes _ = Unit {0}

@@ -1,0 +1,18 @@
+//! The program as one call: words and files in, texts and a status out.
+#![tactic(auto)]
+
+mod command;
+mod commands;
+mod fault_texts;
+mod files;
+mod outcome;
+mod outputs;
+#[cfg(test)]
+mod tests;
+mod texts;
+mod top_call;
+mod words;
+
+pub use command::Command;
+pub use top_call::run;
+pub use words::{WordsFault, read_words};

@@ -1,0 +1,100 @@
+ghost use Rattle.std.specs.Prelude.{◌≡◌, None, Some};
+ghost use Rattle.fab_top.specs.Words.{texts, command_of};
+ghost use Rattle.fab_top.specs.Outcomes.{Leads};
+ghost use Rattle.fab_top.specs.Outputs.{PutsUnread};
+ghost use Rattle.fab_top.specs.Ran.{Ran};
+ghost use Rattle.fab_top.specs.Usage.{usage_text};
+
+use crate::command::Command;
+use crate::commands::check;
+use crate::fault_texts::unread_text;
+use crate::outcome::{Outcome, Stop};
+use crate::outputs::put_answer;
+use crate::words::{WordsFault, read_words};
+use fab_io::{PutFault, Shelf, Sink};
+use std::alloc::Global;
+
+const USAGE: &[u8] = b"usage: fabroute check FABRIC PLAN
+       fabroute route minhop|dor|sssp FABRIC
+       fabroute route updn FABRIC [--root GUID]
+       fabroute route lash|dfsssp|nue FABRIC --lanes N
+       fabroute certify FABRIC PLAN
+       fabroute convert FABRIC PLAN
+       fabroute repair FABRIC PLAN FAILED --lanes N
+       fabroute cut FABRIC FAILED
+       fabroute show FABRIC PLAN SRC DST
+       fabroute load FABRIC PLAN
+       fabroute gen KIND A B SEED
+       fabroute demo KIND A B SEED ENGINE N
+       fabroute transit FABRIC OLD NEW
+       fabroute drain FABRIC PLAN
+       fabroute mcast FABRIC GROUPS
+       fabroute spread FABRIC GROUPS GROUP LID
+       fabroute sweep cables FABRIC PLAN --lanes N
+       fabroute sweep switches FABRIC PLAN --lanes N
+";
+
+fn usage() -> &'static [u8]
+    ensures { result.now ≡ usage_text }
+{
+    USAGE
+}
+
+/// What a command answers.
+fn obey<F: Shelf>(
+    alloc: Global,
+    words: &[String],
+    shelf: &mut F,
+    command: Command,
+) -> Result<Outcome, Stop>
+    requires { command_of (texts words.now) ≡ Some command }
+    ensures { Leads command (texts words.now) (F.told shelf.old) (F.faults shelf.old) (F.faults shelf.new) result }
+{
+    match command {
+        Command::Check { fabric, plan } => check(alloc, words, shelf, fabric, plan),
+    }
+}
+
+/// Tells that a file can't be read.
+fn put_unread<E: Sink>(alloc: Global, name: &str, err: &mut E) -> u8
+    ensures { PutsUnread name.now (record { told_before = E.told err.old; told_now = E.told err.new; faults_before = E.faults err.old; faults_now = E.faults err.new }) result }
+{
+    let Ok(text) = unread_text(alloc, name) else {
+        return 6;
+    };
+    match err.put(&text) {
+        Ok(()) | Err(PutFault::Failed) => 4,
+        Err(PutFault::Memory(_)) => 6,
+    }
+}
+
+/// Does all that the program does: reads the words, without the program's own name, fetches the files that
+/// they name, puts the answer to the outputs, and answers the status.
+pub fn run<F: Shelf, O: Sink, E: Sink>(
+    alloc: Global,
+    words: &[String],
+    shelf: &mut F,
+    out: &mut O,
+    err: &mut E,
+) -> u8
+    ensures ran { Ran (texts words.now) (record {
+      told = F.told shelf.old;
+      faults_before = F.faults shelf.old;
+      faults_now = F.faults shelf.new;
+      out = record { told_before = O.told out.old; told_now = O.told out.new; faults_before = O.faults out.old; faults_now = O.faults out.new };
+      err = record { told_before = E.told err.old; told_now = E.told err.new; faults_before = E.faults err.old; faults_now = E.faults err.new };
+    }) result }
+    // For words that are not in the grammar nothing is fetched.
+    ensures unfetched { command_of (texts words.now) ≡ None → shelf.new ≡ shelf.old }
+{
+    let command = match read_words(alloc, words) {
+        Ok(command) => command,
+        Err(WordsFault::Words) => return put_answer(out, err, 2, b"", usage()),
+        Err(WordsFault::Memory(_)) => return 6,
+    };
+    match obey(alloc, words, shelf, command) {
+        Ok(outcome) => put_answer(out, err, outcome.status, &outcome.out, &outcome.err),
+        Err(Stop::Unread(place)) => put_unread(alloc, words[place].as_str(), err),
+        Err(Stop::Memory(_)) => 6,
+    }
+}
