@@ -16,10 +16,10 @@ use Rattle.fab_netdiscover.specs.declared.fault.BadKind.TheVariants.{Description
 use Rattle.fab_netdiscover.specs.Fronts.{Read, to_last_quote, in_quotes}
 
 -- how many bytes stand behind the last quote
-abbrev behind : List ℕ → ℕ
+abbrev pub behind : List ℕ → ℕ
 behind bytes = suffix_len (λ byte. not (is_quote byte)) bytes
 
-behind-cons : (byte : ℕ) (bytes : List ℕ) → behind (byte ∷ bytes) ≡ cond (nat_eq (behind bytes) (length bytes)) (length bytes + cond (not (is_quote byte)) (1 + 0) 0) (behind bytes)
+pub behind-cons : (byte : ℕ) (bytes : List ℕ) → behind (byte ∷ bytes) ≡ cond (nat_eq (behind bytes) (length bytes)) (length bytes + cond (not (is_quote byte)) (1 + 0) 0) (behind bytes)
 behind-cons byte bytes =
     ap (λ (all : List ℕ). prefix_len (λ one. not (is_quote one)) all) (reverse_onto bytes byte [])
     ∙ prefix_len-append (λ one. not (is_quote one)) (reverse bytes) (byte ∷ [])

@@ -1,5 +1,5 @@
 use super::*;
-use fab_model::{NodeKind, Raw, RawLink};
+use fab_model::{Fabric, NodeKind, Raw, RawLink};
 use std::alloc::Global;
 use std::process::Abort;
 use std::test::Fail;
@@ -275,5 +275,48 @@ fn links_of_three_switches(rt: HostRuntime) -> Result<(), Fail> {
         with_address(link(36, 4, 1, switch, (LEAF_2, 2)), NODE_2, 6, 0),
     ];
     assert_eq!(rt; raw.links(), wanted.as_slice());
+    Ok(())
+}
+
+/// The text of the fabric of a text.
+fn written(rt: &impl Abort, alloc: Global, text: &[u8]) -> Result<Vec<u8>, Fail> {
+    let raw = read_of(rt, alloc, text)?;
+    let fabric = Fabric::build(alloc, &raw)?;
+    Ok(write(alloc, &fabric)?)
+}
+
+#[test]
+fn one_switch_written(rt: HostRuntime) -> Result<(), Fail> {
+    let text = b"Switch 4 \"S-0000000000000010\" # \"sw\" base port 0 lid 1 lmc 0
+[1] \"H-0000000000000020\"[1](20) # \"n0\" lid 2 4xSDR
+[2] \"H-0000000000000021\"[1] # \"n1\" lid 3 4xSDR
+Ca 1 \"H-0000000000000021\" # \"n1\"
+[1] \"S-0000000000000010\"[2] # lid 3 lmc 0 \"sw\" lid 1 4xSDR
+Ca 1 \"H-0000000000000020\" # \"n0\"
+[1](20) \"S-0000000000000010\"[1] # lid 2 lmc 0 \"sw\" lid 1 4xSDR
+";
+    let wanted = b"Switch\t4 \"S-0000000000000010\"\t\t# \"sw\" base port 0 lid 1 lmc 0
+[1]\t\"H-0000000000000020\"[1](20)\t\t# \"n0\" lid 2
+[2]\t\"H-0000000000000021\"[1]\t\t# \"n1\" lid 3
+
+Ca\t1 \"H-0000000000000020\"\t\t# \"n0\"
+[1](20)\t\"S-0000000000000010\"[1]\t\t# lid 2 lmc 0 \"sw\" lid 1
+
+Ca\t1 \"H-0000000000000021\"\t\t# \"n1\"
+[1]\t\"S-0000000000000010\"[2]\t\t# lid 3 lmc 0 \"sw\" lid 1
+
+";
+    let first = written(&rt, rt.alloc(), text)?;
+    assert_eq!(rt; first.as_slice(), wanted.as_slice());
+    Ok(())
+}
+
+#[test]
+fn three_switches_written_again(rt: HostRuntime) -> Result<(), Fail> {
+    let first = written(&rt, rt.alloc(), LEAVES_AND_CORE)?;
+    let again = written(&rt, rt.alloc(), &first)?;
+    assert_eq!(rt; first.as_slice(), again.as_slice());
+    let line = b"[21]\t\"S-0c42a10300aa0012\"[1]\t\t# \"core-1\" lid 3\n";
+    assert!(rt; first.windows(line.len()).any(|part| part == line));
     Ok(())
 }

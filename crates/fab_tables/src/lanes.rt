@@ -18,7 +18,9 @@ const LANE_15: u8 = 15;
 #[derive(Clone, Copy, Drop)]
 pub struct PairRow {
     pub switch: SwitchId,
+    /// The port by which the packets come; a terminal's packets come by the terminal's port.
     pub from_port: u8,
+    /// The port by which they leave.
     pub to_port: u8,
     /// The lane of each of the 16 levels.
     pub map: [u8; 16],
@@ -29,10 +31,12 @@ pub struct PairRow {
 pub enum PairFault {
     /// The pair has no map yet, and 65,536 pairs have one.
     TooMany,
+    /// There is no memory for one more pair.
     Memory(AllocError),
 }
 
-/// Service levels, lane maps and the numbers of the certificate.
+/// Service levels for each switch and each LID in use, lane maps (SL-to-VL tables), and for each channel
+/// and data lane the number of the certificate. A level and a lane take one byte, a number four.
 #[derive(Drop)]
 pub struct Lanes {
     count: u8,

@@ -77,29 +77,49 @@ fn entries(rt: HostRuntime) -> Result<(), Fail> {
     Ok(())
 }
 
-// A route from the switch to its own LID, by the entry: at home, along the cable and back, and lost.
+// The route from the switch to its own LID, by the entry.
+fn follows(
+    alloc: Global,
+    rt: &impl Abort,
+    entry: u8,
+    channel: Option<ChannelId>,
+    end: End,
+) -> Result<(), Fail> {
+    let fabric = looped_switch(alloc)?;
+    assert_eq!(rt; fabric.switches(), 1);
+    let lid = one_lid(rt, &fabric);
+    let mut tables = Tables::new(alloc, &fabric)?;
+    tables.set(SWITCH, lid, entry);
+    let mut route = follow(&fabric, &tables, SWITCH, lid);
+    assert_eq!(rt; route.end(), None);
+    assert_eq!(rt; route.next(), channel, "by {entry}");
+    if channel.is_some() {
+        assert_eq!(rt; route.next(), None);
+    }
+    assert_eq!(rt; route.end(), Some(end), "by {entry}");
+    Ok(())
+}
+
+// At home, along the cable and back, and lost.
 #[test]
 fn routes(rt: HostRuntime) -> Result<(), Fail> {
+    follows(rt.alloc(), &rt, 0, None, End::Delivered)?;
+    follows(rt.alloc(), &rt, 1, Some(ChannelId(0)), End::Loop)?;
+    follows(rt.alloc(), &rt, 2, Some(ChannelId(1)), End::Loop)?;
+    follows(rt.alloc(), &rt, 3, None, End::DeadPort)?;
+    follows(rt.alloc(), &rt, 255, None, End::NoEntry)
+}
+
+#[test]
+fn levels(rt: HostRuntime) -> Result<(), Fail> {
     let fabric = looped_switch(rt.alloc())?;
     assert_eq!(rt; fabric.switches(), 1);
     let lid = one_lid(&rt, &fabric);
-    for (entry, channel, end) in [
-        (0, None, End::Delivered),
-        (1, Some(ChannelId(0)), End::Loop),
-        (2, Some(ChannelId(1)), End::Loop),
-        (3, None, End::DeadPort),
-        (255, None, End::NoEntry),
-    ] {
-        let mut tables = Tables::new(rt.alloc(), &fabric)?;
-        tables.set(SWITCH, lid, entry);
-        let mut route = follow(&fabric, &tables, SWITCH, lid);
-        assert_eq!(rt; route.end(), None);
-        assert_eq!(rt; route.next(), channel, "by {entry}");
-        if channel.is_some() {
-            assert_eq!(rt; route.next(), None);
-        }
-        assert_eq!(rt; route.end(), Some(end), "by {entry}");
-    }
+    let mut lanes = Lanes::new(rt.alloc(), &fabric, 2)?;
+    assert_eq!(rt; lanes.count(), 2);
+    assert_eq!(rt; lanes.level(SWITCH, lid), None);
+    lanes.set_level(SWITCH, lid, Some(3));
+    assert_eq!(rt; lanes.level(SWITCH, lid), Some(3));
     Ok(())
 }
 
@@ -107,19 +127,20 @@ fn routes(rt: HostRuntime) -> Result<(), Fail> {
 fn lanes(rt: HostRuntime) -> Result<(), Fail> {
     let fabric = looped_switch(rt.alloc())?;
     assert_eq!(rt; fabric.switches(), 1);
-    assert_eq!(rt; fabric.channels(), 2);
-    let lid = one_lid(&rt, &fabric);
     let mut lanes = Lanes::new(rt.alloc(), &fabric, 2)?;
-    assert_eq!(rt; lanes.count(), 2);
-    assert_eq!(rt; lanes.level(SWITCH, lid), None);
     assert_eq!(rt; lanes.lane(SWITCH, 3), 15);
-    assert_eq!(rt; lanes.number(ChannelId(1), 14), 0);
-    lanes.set_level(SWITCH, lid, Some(3));
     lanes.set_lane(SWITCH, 3, 1);
-    lanes.set_number(ChannelId(1), 14, 9);
-    assert_eq!(rt; lanes.level(SWITCH, lid), Some(3));
-    assert_eq!(rt; lanes.level(SWITCH, NO_LID), None);
     assert_eq!(rt; lanes.lane(SWITCH, 3), 1);
+    Ok(())
+}
+
+#[test]
+fn numbers(rt: HostRuntime) -> Result<(), Fail> {
+    let fabric = looped_switch(rt.alloc())?;
+    assert_eq!(rt; fabric.channels(), 2);
+    let mut lanes = Lanes::new(rt.alloc(), &fabric, 2)?;
+    assert_eq!(rt; lanes.number(ChannelId(1), 14), 0);
+    lanes.set_number(ChannelId(1), 14, 9);
     assert_eq!(rt; lanes.number(ChannelId(1), 14), 9);
     Ok(())
 }

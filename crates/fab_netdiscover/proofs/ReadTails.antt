@@ -1,0 +1,155 @@
+-- Descriptions, LIDs and LMCs of written lines, read again.
+use Rattle.std.proofs.Common.{◌≡◌, ◌≢◌, ◌<◌, ◌≤◌, ◌+◌, ◌-◌, ◌^◌, ℕ, zero, suc, Bool, true, false, cond, ◌&&◌, ◌||◌, not, List, [], ◌∷◌, ◌++◌, length, drop, take, filter, refl, sym, subst, ap, ◌∙◌, arith, codes}
+use Rattle.std.specs.Prelude.{Ok, Err, Some, None, decimal, nat_lt, nat_eq, ◌==◌, All, position, ok_or}
+use Rattle.std.specs.List.{list_any, list_all, before_last, after_last, slice_split, position_or_len}
+use Rattle.std.specs.Char.{is_digit, digit_value}
+use Rattle.std.specs.Str.{bytes_eq}
+use Rattle.std.proofs.lemmas.Grind.{common_steps}
+use Rattle.std.proofs.lemmas.List.{append_assoc, append-nil, length-append, take_all}
+use Rattle.std.proofs.lemmas.List.Splits.{slice_split_at}
+use Rattle.std.proofs.lemmas.List.Elements.{All-nil, All-cons}
+use Rattle.fab_text.specs.Bytes.{is_quote, is_blank}
+use Rattle.fab_text.specs.Readings.{◌>>=◌}
+use Rattle.fab_netdiscover.specs.declared.fault.LineFault.TheVariants.{Bad}
+use Rattle.fab_netdiscover.specs.declared.fault.BadKind.TheVariants as kinds
+use Rattle.fab_netdiscover.specs.declared.words.Address.{Address}
+use Rattle.fab_netdiscover.specs.Fronts.{Read, number_at, to_last_quote, description_at, words_of, words_after, whole_number, first_number, address_in, address_behind_mark}
+use Rattle.fab_netdiscover.specs.Writing.{in_quotes, address_text, described}
+use Rattle.fab_netdiscover.proofs.Quotes.{behind, behind-cons}
+use Rattle.fab_netdiscover.proofs.Spelled.{Spells, number_read, decimal_spells}
+
+-- ---- up to the last quote
+
+or_parts : (a b : Bool) → (a || b) ≡ false → (a ≡ false) × (b ≡ false)
+or_parts true b e = cc
+or_parts false b e = (refl, e)
+
+none_step : (test : Bool) (size count : ℕ) → test ≡ false → count ≡ size → cond (nat_eq count size) (size + cond (not test) (1 + 0) 0) count ≡ size + 1
+none_step true size count e h = cc
+none_step false size count e h = grind (arith, h)
+
+no_quote_behind : (rest : List ℕ) → list_any is_quote rest ≡ false → behind rest ≡ length rest
+no_quote_behind [] e = refl
+no_quote_behind (byte ∷ rest) e =
+    let parts : (is_quote byte ≡ false) × (list_any is_quote rest ≡ false) = or_parts (is_quote byte) (list_any is_quote rest) e in
+    behind-cons byte rest ∙ none_step (is_quote byte) (length rest) (behind rest) parts.0 (no_quote_behind rest parts.1) ∙ omega arith
+
+quote_step : (size count : ℕ) → count ≡ size → cond (nat_eq count size) (size + cond (not true) (1 + 0) 0) count ≡ size
+quote_step size count h = grind (arith, h)
+
+later_step : (test : Bool) (size count : ℕ) → count < size → cond (nat_eq count size) (size + cond (not test) (1 + 0) 0) count ≡ count
+later_step test size count h = grind (arith, h)
+
+quote_behind : (desc rest : List ℕ) → list_any is_quote rest ≡ false → behind (desc ++ 34 ∷ rest) ≡ length rest
+quote_behind [] rest e = behind-cons 34 rest ∙ quote_step (length rest) (behind rest) (no_quote_behind rest e)
+quote_behind (byte ∷ desc) rest e =
+    let before : behind (desc ++ 34 ∷ rest) ≡ length rest = quote_behind desc rest e in
+    let less : behind (desc ++ 34 ∷ rest) < length (desc ++ 34 ∷ rest) = omega (arith, before, length-append desc (34 ∷ rest)) in
+    behind-cons byte (desc ++ 34 ∷ rest) ∙ later_step (is_quote byte) (length (desc ++ 34 ∷ rest)) (behind (desc ++ 34 ∷ rest)) less ∙ before
+
+or_second : (a b : Bool) → b ≡ true → (a || b) ≡ true
+or_second true b e = refl
+or_second false b e = e
+
+some_quote : (desc rest : List ℕ) → list_any is_quote (desc ++ 34 ∷ rest) ≡ true
+some_quote [] rest = refl
+some_quote (byte ∷ desc) rest = or_second (is_quote byte) (list_any is_quote (desc ++ 34 ∷ rest)) (some_quote desc rest)
+
+front_taken : (desc rest : List ℕ) → take (length desc) (desc ++ rest) ≡ desc
+front_taken [] rest = refl
+front_taken (byte ∷ desc) rest = ap (λ (front : List ℕ). byte ∷ front) (front_taken desc rest)
+
+front_dropped : (desc rest : List ℕ) → drop (length desc + 1) (desc ++ 34 ∷ rest) ≡ rest
+front_dropped [] rest = refl
+front_dropped (byte ∷ desc) rest =
+    let place : length (byte ∷ desc) + 1 ≡ suc (length desc + 1) = omega arith in
+    ap (λ (n : ℕ). drop n (byte ∷ (desc ++ 34 ∷ rest))) place ∙ front_dropped desc rest
+
+read_both : (test : Bool) (front desc back rest : List ℕ) → test ≡ true → front ≡ desc → back ≡ rest → cond {A = Read (List ℕ)} test (Ok (front, back)) (Err (Bad kinds.Description)) ≡ Ok (desc, rest)
+read_both true front desc back rest e h k = cc
+read_both false front desc back rest e h k = cc
+
+split_at_last : (desc rest : List ℕ) → list_any is_quote rest ≡ false → to_last_quote (desc ++ 34 ∷ rest) ≡ Ok (desc, rest)
+split_at_last desc rest e =
+    let all : List ℕ = desc ++ 34 ∷ rest in
+    let after : behind all ≡ length rest = quote_behind desc rest e in
+    let size : length all ≡ length desc + (length rest + 1) = length-append desc (34 ∷ rest) ∙ omega arith in
+    let front : before_last is_quote all ≡ desc = ap (λ (n : ℕ). take n all) (omega (arith, after, size)) ∙ front_taken desc (34 ∷ rest) in
+    let back : after_last is_quote all ≡ rest = ap (λ (n : ℕ). drop n all) (omega (arith, after, size)) ∙ front_dropped desc rest in
+    read_both (list_any is_quote all) (before_last is_quote all) desc (after_last is_quote all) rest (some_quote desc rest) front back
+
+pub description_read : (desc rest : List ℕ) → length desc ≤ 64 → list_any is_quote rest ≡ false → description_at (codes "\t\t# " ++ (in_quotes desc ++ rest)) ≡ Ok (desc, rest)
+unfolding description_at in_quotes
+description_read desc rest h e =
+    rw append_assoc (rw (split_at_last desc rest e) (ap (λ (text : List ℕ). Ok (text, rest)) (take_all 64 desc h)))
+
+-- ---- words
+
+pub digit_parts : (a b : Bool) → (a && b) ≡ true → (a ≡ true) × (b ≡ true)
+digit_parts true b e = (refl, e)
+digit_parts false b e = cc
+
+digit_by : (test : Bool) (base byte : ℕ) → nat_lt byte 48 ≡ test → base ≤ 16 → nat_lt (cond test 36 (cond (nat_lt byte 58) (byte - 48) (cond (nat_lt byte 65) 36 (cond (nat_lt byte 91) (byte - 55) (cond (nat_lt byte 97) 36 (cond (nat_lt byte 123) (byte - 87) 36)))))) base ≡ true → 48 ≤ byte
+digit_by true base byte e h k = absurd (grind (arith, h, k))
+digit_by false base byte e h k = grind (arith, e)
+
+-- a digit is neither a blank nor a quote nor a line feed
+pub digit_byte : (base byte : ℕ) → base ≤ 16 → is_digit byte base ≡ true → 48 ≤ byte
+digit_byte base byte h e = digit_by (nat_lt byte 48) base byte refl h e
+
+pub unblank : (byte : ℕ) → 48 ≤ byte → is_blank byte ≡ false
+unblank byte h = grind arith
+
+abbrev without_empty : List (List ℕ) → List (List ℕ)
+without_empty = filter (λ word. not (length word == 0))
+
+digits_unblank : (written : List ℕ) → list_all (λ byte. is_digit byte 10) written ≡ true → All (λ byte. is_blank byte ≡ false) written
+digits_unblank [] e = All-nil _
+digits_unblank (digit ∷ written) e =
+    let parts : (is_digit digit 10 ≡ true) × (list_all (λ byte. is_digit byte 10) written ≡ true) = digit_parts (is_digit digit 10) _ e in
+    All-cons (λ byte. is_blank byte ≡ false) digit written (unblank digit (digit_byte 10 digit (omega arith) parts.0)) (digits_unblank written parts.1)
+
+some_word : (word : List ℕ) (others : List (List ℕ)) → 0 < length word → cond (not (length word == 0)) (word ∷ others) others ≡ word ∷ others
+some_word word others h = let some : (length word == 0) ≡ false = grind arith in ap (λ (none : Bool). cond (not none) (word ∷ others) others) some
+
+-- a number is the first word
+pub number_word : (number : ℕ) (rest : List ℕ) → number < 2 ^ 64 → words_of (decimal number ++ 32 ∷ rest) ≡ decimal number ∷ words_of rest
+number_word number rest h =
+    let s : Spells 10 number (decimal number) = decimal_spells number h in
+    ap without_empty (slice_split_at is_blank (decimal number) 32 rest (digits_unblank (decimal number) s.all) refl) ∙ some_word (decimal number) (words_of rest) s.some
+
+pub number_is_whole : (number : ℕ) → number < 2 ^ 32 → whole_number (decimal number) ≡ Ok number
+number_is_whole number h =
+    ap (λ (word : List ℕ). whole_number word) (sym (append-nil (decimal number)))
+    ∙ rw (number_read kinds.Lid number (decimal number) [] (decimal_spells number (omega (arith, h))) h refl)
+
+-- ---- LIDs and LMCs
+
+zero_is_whole : whole_number (codes "0") ≡ Ok 0
+unfolding number_at
+zero_is_whole = refl
+
+abbrev address : ℕ → Address
+address lid = record { lid = lid; lmc = 0 }
+
+pub switch_address : (lid : ℕ) → lid < 2 ^ 32 → address_in (codes " base port 0 " ++ address_text lid) ≡ Ok (address lid)
+unfolding address_in address_text
+switch_address lid h = rw (number_word lid (codes "lmc 0") (omega (arith, h))) (rw (number_is_whole lid h) (rw zero_is_whole))
+
+address_at : (lid : ℕ) (rest : List ℕ) → lid < 2 ^ 32 → address_in (codes " lid " ++ (decimal lid ++ (codes " lmc 0 " ++ rest))) ≡ Ok (address lid)
+unfolding address_in
+address_at lid rest h = rw (number_word lid (codes "lmc 0 " ++ rest) (omega (arith, h))) (rw (number_is_whole lid h) (rw zero_is_whole))
+
+pub port_address : (lid : ℕ) (rest : List ℕ) → lid < 2 ^ 32 → address_in (32 ∷ (address_text lid ++ (32 ∷ rest))) ≡ Ok (address lid)
+unfolding address_text
+port_address lid rest h = ap (λ (text : List ℕ). address_in (codes " lid " ++ text)) (append_assoc (decimal lid) (codes " lmc 0") (32 ∷ rest)) ∙ address_at lid rest h
+
+below_three : (count : ℕ) → nat_lt 2 (suc (suc (suc count))) ≡ true
+below_three count = grind arith
+
+mark_found : (rest : List ℕ) → position (λ one. one == 35) (9 ∷ 9 ∷ 35 ∷ rest) ≡ Some 2
+mark_found rest = ap (λ (within : Bool). cond within (Some 2) None) (below_three (length rest))
+
+pub marked_address : (lid : ℕ) (rest : List ℕ) → lid < 2 ^ 32 → address_behind_mark (codes "\t\t# " ++ (address_text lid ++ (32 ∷ rest))) ≡ Ok (address lid)
+unfolding address_behind_mark
+marked_address lid rest h = rw (mark_found (32 ∷ (address_text lid ++ (32 ∷ rest)))) (port_address lid rest h)

@@ -1,0 +1,12 @@
+//! Laws of what a text means, each proved.
+ghost use Rattle.fab_netdiscover.specs.Laws.{TextsHaveNoOwnCable, WrittenIsRead};
+
+/// The text of a fabric is read as its rows written out, unless a cable leads from a switch to itself.
+pub fn written_is_read()
+    ensures { WrittenIsRead }
+{}
+
+/// No text gives a cable from a switch to itself.
+pub fn texts_have_no_own_cable()
+    ensures { TextsHaveNoOwnCable }
+{}
