@@ -317,6 +317,10 @@ fn three_switches_written_again(rt: HostRuntime) -> Result<(), Fail> {
     let again = written(&rt, rt.alloc(), &first)?;
     assert_eq!(rt; first.as_slice(), again.as_slice());
     let line = b"[21]\t\"S-0c42a10300aa0012\"[1]\t\t# \"core-1\" lid 3\n";
-    assert!(rt; first.windows(line.len()).any(|part| part == line));
+    assert!(rt;
+        first
+            .windows(line.len())
+            .any(|part| part == line.as_slice())
+    );
     Ok(())
 }
