@@ -1,5 +1,5 @@
 -- The LIDs in use: what is connected to a LID has it in use, and they are looked at in ascending order.
-use Rattle.std.proofs.Common.{◌≡◌, ℕ, zero, suc, ◌<◌, Bool, true, false, List, [], ◌∷◌, ◌++◌, length, map, refl, sym, ◌∙◌, ap, subst, inl, inr, ◌⊎◌, arith, Some, None, Option, option_map, position, find, Contains, cond}
+use Rattle.std.proofs.Common.{◌≡◌, ℕ, zero, suc, ◌<◌, Bool, true, false, List, [], ◌∷◌, ◌++◌, length, map, refl, sym, ◌∙◌, ap, subst, inl, inr, ◌⊎◌, arith, Some, None, Option, option_map, position, find, Contains, cond, slice_get}
 use Rattle.std.specs.Prelude.{slice_index_or, nat_lt, ◌==◌}
 use Rattle.std.specs.Option.{option_or}
 use Rattle.std.specs.List.Sorted.{IsStrictlyIncreasing}
@@ -8,7 +8,7 @@ use Rattle.std.proofs.lemmas.List.{get_or-map, length-map}
 use Rattle.std.proofs.lemmas.List.Elements.{Contains-append_left, Contains-append_right}
 use Rattle.std.proofs.lemmas.List.Kept.{AllPairs-from_increasing}
 use Rattle.std.proofs.lemmas.List.Quantifiers.{position-Some}
-use Rattle.std.proofs.lemmas.Option.{none-some, same_Some}
+use Rattle.std.proofs.lemmas.Option.{none-some, same_Some, slice_get_within, get_or_from_slice_get}
 use Rattle.fab_model.specs.declared.rows.Lid.{Lid}
 use Rattle.fab_model.specs.declared.rows.SwitchRow.{SwitchRow}
 use Rattle.fab_model.specs.declared.rows.TerminalRow.{TerminalRow}
@@ -105,3 +105,8 @@ lesser_first xs i m rises has low less = elim (cases_lt has.0 i) [
 pub lid_read : (o : Option ℕ) (lid : Lid) → option_map lid_id o ≡ Some lid → o ≡ Some lid.0
 lid_read None lid e = absurd (none-some lid e)
 lid_read (Some n) lid e = ap (λ (l : Lid). Some l.0) (same_Some (lid_id n) lid e)
+
+pub lid_at_in_use : (t : Topology) (index : ℕ) (lid : Lid) → Some lid ≡ option_map lid_id (slice_get (lids_of t) index) → Contains (lids_of t) lid.0
+lid_at_in_use t index lid e =
+    let there : slice_get (lids_of t) index ≡ Some lid.0 = lid_read (slice_get (lids_of t) index) lid (sym e) in
+    (index, slice_get_within (lids_of t) index lid.0 there, get_or_from_slice_get (lids_of t) index lid.0 lid.0 there)

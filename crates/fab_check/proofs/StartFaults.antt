@@ -24,10 +24,14 @@ use Rattle.fab_tables.proofs.PlainLaws.{same_channels, source_of, terminal_of}
 use Rattle.fab_check.specs.declared.starts.Start.{Start}
 use Rattle.fab_check.specs.Starts.{start_of, IsNotAfter, IsOfTerminal, AreStarts}
 use Rattle.fab_check.specs.First.{FindsFirst, Beneath}
-use Rattle.fab_check.specs.LaneFaults.{IsClear}
 use Rattle.fab_check.proofs.Lids.{connected_in_use, lesser_first}
 use Rattle.fab_check.proofs.Firsts.{none_beneath, first_beneath}
 use Rattle.fab_check.proofs.RouteFaults.{none_before}
+
+-- Packets from a start to the LID meet no fault: its switch has a level if it is connected to the LID, and no hop of the route has a fault
+pub record IsClear (t : Topology) (e : Entries) (l : LaneTables) (lid : ℕ) (start : Start) : Type 0 where
+  pub has_level : IsConnectedTo t start.switch.0 lid → IsSome (level l start.switch.0 lid)
+  pub hops : FindsFirst (Beneath (1 ∷ lid ∷ start.switch.0 ∷ start.port ∷ []) (IsLaneFaultAt t e l)) None
 
 module _ (t : Topology) (e : Entries) (l : LaneTables) where
   abbrev P : List ℕ → Verdict → Type 0

@@ -4,5 +4,4 @@ pub mod Reaching
 pub mod Starts
 pub mod Hops
 pub mod First
-pub mod LaneFaults
 pub mod Free

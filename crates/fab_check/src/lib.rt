@@ -1,4 +1,5 @@
-//! The checker of plans. It stands on the fabric and the tables alone.
+//! The checker of plans. It stands on the fabric and the tables alone, and so shares nothing with the engines
+//! that make plans.
 #![tactic(auto)]
 
 ghost use Rattle.std.specs.Prelude.{◌≡◌, ◌↔◌, IfOk, None};
@@ -12,6 +13,8 @@ mod hops;
 mod lanes;
 mod reaching;
 mod starts;
+#[cfg(test)]
+mod tests;
 
 use crate::components::Components;
 use crate::lanes::first_lane_fault;
@@ -61,8 +64,13 @@ impl<'f> Checker<'f> {
         })
     }
 
-    /// The verdict on a plan: the first fault in the fixed order, or that there is none. The kept numbers of
-    /// a `NotRising` are those of its two virtual channels. It takes no memory.
+    /// The verdict on a plan: its first fault, or that there is none. It takes no memory.
+    ///
+    /// First comes `Unreached`, by LID and then by switch connected to it, for a route that isn't delivered.
+    /// A plan without lanes is then good: `Routes`. With lanes, LIDs and the sources connected to them are
+    /// taken in order: `NoLevel`, and then for each terminal of the source by ascending port, hop by hop,
+    /// `BadLane` for a lane that isn't below the lane count, `NoNumber`, and `NotRising` for a number that
+    /// isn't above that of the hop before. Where none of these is met, the answer is `Lanes`.
     pub fn check(&mut self, plan: &Plan) -> Verdict
         requires { PlanFits self.old plan.now }
         ensures verdict { IsVerdict self.old plan.now.tables plan.now.lanes result }

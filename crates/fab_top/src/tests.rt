@@ -41,6 +41,7 @@ impl Run {
         shelf.add("DUMP", DUMP)?;
         shelf.add("TWICE", TWICE)?;
         shelf.add("EMPTY", b"")?;
+        shelf.add("PLAN", b"fabroute plan 1\nlanes none\nend plan\n")?;
         Ok(Run {
             shelf,
             out: MemorySink::new(alloc),
@@ -90,6 +91,9 @@ fn files_that_are_refused(rt: HostRuntime) -> Result<(), Fail> {
     let mut second = Run::new(rt.alloc())?;
     assert_eq!(rt; second.status(rt.alloc(), &["check", "ONE", "TWICE"])?, 3);
     second.tells(&rt, b"", b"TWICE:5: row given twice\n");
+    let mut third = Run::new(rt.alloc())?;
+    assert_eq!(rt; third.status(rt.alloc(), &["check", "ONE", "PLAN"])?, 3);
+    third.tells(&rt, b"", b"PLAN: form not built yet\n");
     Ok(())
 }
 

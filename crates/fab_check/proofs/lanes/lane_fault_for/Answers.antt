@@ -11,10 +11,9 @@ use Rattle.fab_tables.specs.declared.verdict.Verdict.{Verdict}
 use Rattle.fab_tables.proofs.FallingRoutes.{place_below}
 use Rattle.fab_check.specs.declared.starts.Start.{Start}
 use Rattle.fab_check.specs.Starts.{IsOfTerminal, AreStarts}
-use Rattle.fab_check.specs.LaneFaults.{IsClear}
 use Rattle.fab_check.proofs.RouteFaults.{apart_by}
 use Rattle.fab_check.proofs.HopFaults.{none_found}
-use Rattle.fab_check.proofs.StartFaults.{clear_apart, clear_more, clear_again, alike_now, found_clear, none_from_starts, found_first, same_option}
+use Rattle.fab_check.proofs.StartFaults.{IsClear, clear_apart, clear_more, clear_again, alike_now, found_clear, none_from_starts, found_first, same_option}
 use Rattle.fab_check.proofs.lanes.lane_fault_for.Goals as goal
 use Rattle.fab_check.proofs.lanes.lane_fault_for.Goals.{then-ne+then-are_connected+else-is_some+then-pairs-eq0, then-ne+then-are_connected+else-is_some+else-pairs-eq0, else-ne, else-ne-via-then-ne+else-are_connected, else-ne-via-else-ne}
 
