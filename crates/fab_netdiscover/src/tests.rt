@@ -312,6 +312,25 @@ Ca\t1 \"H-0000000000000021\"\t\t# \"n1\"
 }
 
 #[test]
+fn descriptions_written(rt: HostRuntime) -> Result<(), Fail> {
+    let text = b"Switch 2 \"S-10\" # \"a \"b\" c\" lid 1 lmc 0
+[1] \"H-20\"[1]
+Ca 1 \"H-20\"
+[1] \"S-10\"[1] # lid 2 lmc 0
+";
+    let wanted = b"Switch\t2 \"S-0000000000000010\"\t\t# \"a \"b\" c\" base port 0 lid 1 lmc 0
+[1]\t\"H-0000000000000020\"[1]\t\t# \"\" lid 2
+
+Ca\t1 \"H-0000000000000020\"\t\t# \"\"
+[1]\t\"S-0000000000000010\"[1]\t\t# lid 2 lmc 0 \"a \"b\" c\" lid 1
+
+";
+    let first = written(&rt, rt.alloc(), text)?;
+    assert_eq!(rt; first.as_slice(), wanted.as_slice());
+    Ok(())
+}
+
+#[test]
 fn three_switches_written_again(rt: HostRuntime) -> Result<(), Fail> {
     let first = written(&rt, rt.alloc(), LEAVES_AND_CORE)?;
     let again = written(&rt, rt.alloc(), &first)?;

@@ -1,0 +1,5 @@
+use Rattle.fab_certify.proofs.CollectingStarts.{AreCollectedFrom}
+use Rattle.fab_certify.proofs.collecting.collect_for.Given as goal
+
+abbrev pub invariant-loop-start : goal.invariant-loop-start
+invariant-loop-start l = AreCollectedFrom l.fabric l.tables l.lanes l.lid.0 l.starts l.initial.dependencies l.dependencies l.start-index l.alike

@@ -1,0 +1,127 @@
+ghost use Rattle.std.specs.Prelude.{◌≡◌, IfOk, MatchOption};
+ghost use Rattle.fab_tables.specs.declared.plan.Plan.{Plan as Planned};
+ghost use Rattle.fab_tables.specs.Fit.{EntriesFit, LanesFit, PlanFits, IsTidy};
+ghost use Rattle.fab_tables.specs.Dependencies.{AreReadLanes};
+ghost use Rattle.fab_tables.specs.Verdicts.{IsRefusal};
+ghost use Rattle.fab_tables.specs.Certified.{IsCertified};
+ghost use Rattle.fab_certify.specs.Numbered.{IsSound};
+ghost use Rattle.fab_certify.specs.Starts.{AreStarts};
+ghost use Rattle.fab_certify.specs.Certificate.{IsCertificate, IsCertificateBy, HasNoPair, IsPlainCertificate};
+
+use crate::collecting::collect;
+use crate::components::Components;
+use crate::lanes::first_lane_fault;
+use crate::layers::levels;
+use crate::numbers::set_numbers;
+use crate::one_lane::one_lane;
+use crate::reaching::first_unreached;
+use crate::ring::Ring;
+use crate::rings::first_ring;
+use crate::starts::{Start, starts_of};
+use fab_model::Fabric;
+use fab_tables::{Lanes, Plan, Tables, Verdict};
+use std::alloc::{AllocError, Global};
+
+/// What certifying a plan answers.
+#[derive(Drop)]
+pub enum Certified {
+    /// The plan with the levels of its dependencies as numbers.
+    Numbers(Plan),
+    /// The first fault that no numbers can mend.
+    Refused(Verdict),
+    /// The first ring of the dependencies. The number of a virtual channel is its channel times
+    /// the lane count plus its lane.
+    RingUsed(Ring),
+}
+
+/// Numbers a plan. A plan without lanes is taken with one lane and level 0.
+pub fn certify(alloc: Global, fabric: &Fabric, plan: &Plan) -> Result<Certified, AllocError>
+    requires { PlanFits fabric.now plan.now }
+    ensures answer { IfOk result (λ answer. IsCertificate fabric.now plan.now answer) }
+    // Without maps of pairs, all is said of sources and LIDs.
+    ensures plain { IfOk result (λ answer. HasNoPair plan.now → IsPlainCertificate fabric.now plan.now answer) }
+    // What is numbered is certified, and fits.
+    ensures certified { IfOk result (λ answer. (new : Planned) → answer ≡ Certified.Numbers new → IsCertified fabric.now new) }
+    ensures fits { IfOk result (λ answer. (new : Planned) → answer ≡ Certified.Numbers new → PlanFits fabric.now new) }
+    ensures tidy { IfOk result (λ answer. (new : Planned) → answer ≡ Certified.Numbers new → IsTidy fabric.now plan.now → IsTidy fabric.now new) }
+{
+    let components = Components::of(alloc, fabric)?;
+    let starts = starts_of(alloc, fabric)?;
+    let Plan { tables, lanes } = plan.copy(alloc)?;
+    let lanes = lanes_read(alloc, fabric, lanes, &components, &starts)?;
+    if let Some(fault) = first_fault(alloc, fabric, &tables, &lanes, &components, &starts)? {
+        return Ok(Certified::Refused(fault));
+    }
+    numbered(alloc, fabric, tables, lanes, &components, &starts)
+}
+
+/// The lanes with which a plan is read.
+fn lanes_read(
+    alloc: Global,
+    fabric: &Fabric,
+    lanes: Option<Lanes>,
+    components: &Components,
+    starts: &[Start],
+) -> Result<Lanes, AllocError>
+    requires components { components.now ≡ fabric.now }
+    requires starts { AreStarts fabric.now starts.now }
+    ensures { IfOk result (AreReadLanes fabric.now lanes) }
+{
+    match lanes {
+        Some(lanes) => Ok(lanes),
+        None => one_lane(alloc, fabric, components, starts),
+    }
+}
+
+/// The first fault that no numbers can mend.
+fn first_fault(
+    alloc: Global,
+    fabric: &Fabric,
+    tables: &Tables,
+    lanes: &Lanes,
+    components: &Components,
+    starts: &[Start],
+) -> Result<Option<Verdict>, AllocError>
+    requires tables { EntriesFit fabric.now tables.now }
+    requires lanes { LanesFit fabric.now lanes.now }
+    requires components { components.now ≡ fabric.now }
+    requires starts { AreStarts fabric.now starts.now }
+    ensures { IfOk result (λ fault. MatchOption fault (IsSound fabric.now tables.now lanes.now) (IsRefusal fabric.now tables.now lanes.now)) }
+{
+    let mut delivered = vec![in alloc; false; fabric.switches() as usize]?;
+    let unreached = first_unreached(fabric, tables, components, &mut delivered);
+    if unreached.is_some() {
+        return Ok(unreached);
+    }
+    Ok(first_lane_fault(fabric, tables, lanes, components, starts))
+}
+
+/// The numbered plan, or the first ring of its dependencies.
+fn numbered(
+    alloc: Global,
+    fabric: &Fabric,
+    tables: Tables,
+    mut lanes: Lanes,
+    components: &Components,
+    starts: &[Start],
+) -> Result<Certified, AllocError>
+    requires tables { EntriesFit fabric.now tables }
+    requires lanes { LanesFit fabric.now lanes }
+    requires components { components.now ≡ fabric.now }
+    requires starts { AreStarts fabric.now starts.now }
+    requires sound { IsSound fabric.now tables lanes }
+    ensures { IfOk result (IsCertificateBy fabric.now tables lanes) }
+{
+    let dependencies = collect(alloc, fabric, &tables, &lanes, components, starts)?;
+    let graph = dependencies.graph(alloc, fabric.channels() * u32::from(lanes.count()))?;
+    match levels(alloc, &graph)? {
+        Some(levels) => {
+            set_numbers(&mut lanes, fabric.channels(), &dependencies, &levels);
+            Ok(Certified::Numbers(Plan {
+                tables,
+                lanes: Some(lanes),
+            }))
+        }
+        None => Ok(Certified::RingUsed(first_ring(alloc, &graph)?.unwrap())),
+    }
+}

@@ -1,0 +1,27 @@
+//! Rings and levels of graphs, and the numbers that certify a plan.
+#![tactic(auto)]
+
+mod certified;
+mod collecting;
+mod components;
+mod dependencies;
+mod graph;
+mod hops;
+mod lanes;
+mod laws;
+mod layers;
+mod nearness;
+mod neighbours;
+mod numbers;
+mod one_lane;
+mod reaching;
+mod ring;
+mod rings;
+mod starts;
+
+pub use certified::{Certified, certify};
+pub use graph::Graph;
+pub use laws::{numbered_is_certified, plain_certificate, refusal_is_unsound};
+pub use layers::levels;
+pub use ring::Ring;
+pub use rings::first_ring;

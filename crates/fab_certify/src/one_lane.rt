@@ -1,0 +1,71 @@
+// The lanes with which a plan without lanes is read.
+ghost use Rattle.std.specs.Prelude.{◌≡◌, IfOk, length, Contains};
+ghost use Rattle.fab_model.specs.WellFormed.{IsFabric};
+ghost use Rattle.fab_model.specs.Topology.{lids_of};
+ghost use Rattle.fab_tables.specs.Dependencies.{IsOneLane};
+ghost use Rattle.fab_certify.specs.Starts.{AreStarts};
+ghost use Rattle.fab_certify.specs.OneLane.{IsMapping, IsLeveling, KeepsLevels, HasLevelsFor};
+
+use crate::components::Components;
+use crate::starts::Start;
+use fab_model::{Fabric, Lid, SwitchId};
+use fab_tables::Lanes;
+use std::alloc::{AllocError, Global};
+
+/// One lane: each switch puts level 0 on lane 0, and each source has level 0 for each LID connected to it.
+pub(crate) fn one_lane(
+    alloc: Global,
+    fabric: &Fabric,
+    components: &Components,
+    starts: &[Start],
+) -> Result<Lanes, AllocError>
+    requires components { components.now ≡ fabric.now }
+    requires starts { AreStarts fabric.now starts.now }
+    ensures { IfOk result (IsOneLane fabric.now) }
+{
+    let mut lanes = without_levels(alloc, fabric)?;
+    for index in 0..fabric.lids() {
+        if let Some(lid) = fabric.lid_at(index) {
+            set_levels(fabric, lid, components, starts, &mut lanes);
+        }
+    }
+    Ok(lanes)
+}
+
+/// One lane without levels.
+fn without_levels(alloc: Global, fabric: &Fabric) -> Result<Lanes, AllocError>
+    ensures { IfOk result (λ l. IsMapping fabric.now l (length fabric.now.switches)) }
+{
+    let mut lanes = Lanes::new(alloc, fabric, 1)?;
+    for switch in 0..fabric.switches() {
+        lanes.set_lane(SwitchId(switch), 0, 0);
+    }
+    Ok(lanes)
+}
+
+/// Gives level 0 for a LID to each source connected to it.
+fn set_levels(
+    fabric: &Fabric,
+    lid: Lid,
+    components: &Components,
+    starts: &[Start],
+    lanes: &mut Lanes,
+)
+    requires fabric { IsFabric fabric.now }
+    requires in_use { Contains (lids_of fabric.now) lid.0 }
+    requires components { components.now ≡ fabric.now }
+    requires starts { AreStarts fabric.now starts.now }
+    requires before { IsLeveling fabric.now lanes.old }
+    ensures after { IsLeveling fabric.now lanes.new }
+    ensures kept { KeepsLevels lanes.old lanes.new }
+    ensures has { HasLevelsFor fabric.now lanes.new lid.0 }
+{
+    let Some(place) = fabric.place_of(lid) else {
+        return;
+    };
+    for start in starts {
+        if components.are_connected(start.switch, place.switch) {
+            lanes.set_level(start.switch, lid, Some(0));
+        }
+    }
+}
