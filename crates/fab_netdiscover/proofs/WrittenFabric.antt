@@ -18,11 +18,12 @@ use Rattle.fab_model.specs.Description.{HasNoLineFeed, IsDescription}
 use Rattle.fab_model.specs.Records.{Records}
 use Rattle.fab_model.specs.Topology.{Topology, guid_of, ports_of, leaves_by, is_cabled_at, reversed}
 use Rattle.fab_model.specs.WellFormed.{IsFabric, IsPort, IsUnicast, adapter_ports_of}
-use Rattle.fab_model.specs.Written.{Block, adapter_guid_of, is_on_adapter, port_numbers, channel_link, terminal_link, switch_link, adapter_link, switch_block, adapter_block, blocks, laid_out, records_of, MakesItself}
+use Rattle.fab_model.specs.Written.{Block, adapter_guid_of, is_on_adapter, port_numbers, channel_link, terminal_link, switch_link, adapter_link, switch_block, adapter_block, blocks, laid_out, records_of}
+use Rattle.fab_model.proofs.MakesItself.{makes_itself}
 use Rattle.fab_netdiscover.specs.declared.fault.ReadFault.{ReadFault}
 use Rattle.fab_netdiscover.specs.Reading.{no_records, lines_read, records_in}
 use Rattle.fab_netdiscover.specs.Writing.{desc_of_switch, lid_of_switch, desc_of_adapter, switch_head_text, adapter_head_text, channel_text, terminal_text, adapter_port_text, switch_port_text, adapter_port_line, switch_text, adapter_text, text_of}
-use Rattle.fab_netdiscover.specs.Laws.{HasNoOwnCable, IsTextOf, WrittenIsRead}
+use Rattle.fab_netdiscover.specs.Laws.{HasNoOwnCable, IsTextOf, WrittenIsRead, WrittenIsBuilt}
 use Rattle.fab_netdiscover.proofs.Rows.{holds, tip_is_switch}
 use Rattle.fab_netdiscover.proofs.NumberedRows.{Row, some_row}
 use Rattle.fab_netdiscover.proofs.WrittenPorts.{LinkText, Fit, far_link, near_link, channel_line, terminal_line, adapter_line}
@@ -273,5 +274,8 @@ unfolding text_of
 written_whole fabric start switches bytes e h k =
     k ∙ ap (λ (front : List ℕ). front ++ flat_map (adapter_text fabric) (enumerate_from 0 fabric.adapters)) (h ∙ ap (λ (none : List ℕ). none ++ flat_map (switch_text fabric) (enumerate_from 0 fabric.switches)) e)
 
-pub text_again : (fabric : Topology) (bytes : List ℕ) → IsFabric fabric → bytes ≡ text_of fabric → HasNoOwnCable fabric → MakesItself fabric → IsTextOf bytes fabric
-text_again fabric bytes h e own made = (records_of fabric, ap records_in e ∙ written_is_read fabric h own, made)
+pub text_again : (fabric : Topology) (bytes : List ℕ) → IsFabric fabric → bytes ≡ text_of fabric → HasNoOwnCable fabric → IsTextOf bytes fabric
+text_again fabric bytes h e own = (records_of fabric, ap records_in e ∙ written_is_read fabric h own, makes_itself fabric h.rows)
+
+pub written_is_built : WrittenIsBuilt
+written_is_built fabric h own = text_again fabric (text_of fabric) h refl own

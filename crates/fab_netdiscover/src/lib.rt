@@ -11,7 +11,7 @@ mod words;
 mod writing;
 
 pub use fault::{BadKind, ReadFault};
-pub use laws::{texts_have_no_own_cable, written_is_read};
+pub use laws::{texts_have_no_own_cable, written_is_built, written_is_read};
 pub use reading::read;
 pub use writing::write;
 

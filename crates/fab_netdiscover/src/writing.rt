@@ -2,7 +2,7 @@
 ghost use Rattle.std.specs.Prelude.{◌≡◌, ◌<◌, ◌++◌, length, slice_get, find, IfOk, IfSome, OnOk};
 ghost use Rattle.std.specs.List.{flat_map, enumerate_from};
 ghost use Rattle.fab_model.specs.Topology.{leaves_by, is_cabled_at};
-ghost use Rattle.fab_model.specs.Written.{MakesItself, port_numbers};
+ghost use Rattle.fab_model.specs.Written.{port_numbers};
 ghost use Rattle.fab_model.specs.WellFormed.{IsFabric};
 ghost use Rattle.fab_netdiscover.specs.AdapterPorts.{FindsAmong};
 ghost use Rattle.fab_netdiscover.specs.Laws.{HasNoOwnCable, IsTextOf};
@@ -380,7 +380,7 @@ fn push_adapters(alloc: Global, text: &mut Vec<u8>, fabric: &Fabric) -> Result<(
 pub fn write(alloc: Global, fabric: &Fabric) -> Result<Vec<u8>, AllocError>
     ensures text { IfOk result (λ bytes. bytes.items ≡ writing.text_of fabric.now) }
     // Read and built, it is the same fabric, unless a cable leads from a switch to itself.
-    ensures again { IfOk result (λ bytes. HasNoOwnCable fabric.now → MakesItself fabric.now → IsTextOf bytes.items fabric.now) }
+    ensures again { IfOk result (λ bytes. HasNoOwnCable fabric.now → IsTextOf bytes.items fabric.now) }
 {
     let mut text = Vec::new(alloc);
     push_switches(alloc, &mut text, fabric)?;
