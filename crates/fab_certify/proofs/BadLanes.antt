@@ -1,26 +1,23 @@
 -- Bad lanes on a terminal's route, by their places.
-use Rattle.std.proofs.Common.{◌≡◌, ℕ, suc, ◌<◌, ◌≤◌, List, [], ◌∷◌, length, drop, refl, sym, ◌∙◌, ap, subst, inl, inr, arith, Some, None, Option, slice_get}
+use Rattle.std.proofs.Common.{◌≡◌, ℕ, suc, ◌<◌, ◌≤◌, List, [], ◌∷◌, length, drop, refl, sym, ◌∙◌, ap, subst, inl, inr, arith, Some, None, slice_get}
 use Rattle.std.specs.Prelude.{slice_index}
 use Rattle.std.proofs.lemmas.Bool.{cases_lt}
 use Rattle.std.proofs.lemmas.Option.{same_Some, slice_get_within}
-use Rattle.fab_model.specs.declared.rows.ChannelId.{ChannelId}
-use Rattle.fab_model.specs.declared.rows.ChannelRow.{ChannelRow}
 use Rattle.fab_model.specs.declared.rows.Lid.{Lid}
 use Rattle.fab_model.specs.declared.rows.SwitchId.{SwitchId}
 use Rattle.fab_model.specs.Topology.{Topology}
 use Rattle.fab_tables.specs.declared.verdict.VirtualChannel.{VirtualChannel}
 use Rattle.fab_tables.specs.declared.verdict.Verdict.{Verdict}
 use Rattle.fab_tables.specs.declared.verdict.Verdict.TheVariants.{Routes, Lanes, Unreached, NoLevel, BadLane, NoNumber, NotRising}
-use Rattle.fab_tables.specs.Ahead.{Ahead, StepsTo}
 use Rattle.fab_tables.specs.Entries.{Entries}
-use Rattle.fab_tables.specs.LaneTables.{LaneTables, lane_at}
+use Rattle.fab_tables.specs.LaneTables.{LaneTables}
 use Rattle.fab_tables.specs.Verdicts.{IsFirst, IsHop, Leaves}
 use Rattle.fab_certify.specs.declared.starts.Start.{Start}
 use Rattle.fab_certify.specs.First.{FindsFirst, Beneath}
 use Rattle.fab_certify.specs.Structural.{IsStructuralAt, StartsAt}
 use Rattle.fab_certify.proofs.Firsts.{none_beneath, first_beneath}
 use Rattle.fab_certify.proofs.RouteFaults.{none_before}
-use Rattle.fab_certify.proofs.HopsAlong.{IsAlong, hops_from, hop_in, hop_of, all_passed, next_hop, goes_along, leaves}
+use Rattle.fab_certify.proofs.HopsAlong.{hops_from, hop_in, hop_of}
 
 -- the hops that are passed have lanes below the count
 abbrev pub AreGood : Topology → Entries → LaneTables → Lid → Start → ℕ → ℕ → Type 0

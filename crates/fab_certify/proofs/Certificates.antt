@@ -1,5 +1,5 @@
 -- What a certificate says of the numbered plan.
-use Rattle.std.proofs.Common.{◌≡◌, ℕ, Bool, true, false, List, refl, sym, ◌∙◌, ap, subst, Some, None, Option, Result}
+use Rattle.std.proofs.Common.{◌≡◌, ℕ, Bool, List, refl, sym, ◌∙◌, ap, subst, Some, None, Option, Result}
 use Rattle.std.specs.Prelude.{All, IfSome, IfOk, IsTrue, IsFalse}
 use Rattle.std.proofs.lemmas.Result.{IfOk-weaker}
 use Rattle.fab_model.specs.Topology.{Topology, is_source}
@@ -11,7 +11,7 @@ use Rattle.fab_tables.specs.Dependencies.{AreReadLanes, IsUsed, Depends}
 use Rattle.fab_tables.specs.Certified.{IsCertified}
 use Rattle.fab_certify.specs.declared.certified.Certified.{Certified}
 use Rattle.fab_certify.specs.declared.certified.Certified.TheVariants.{Numbers}
-use Rattle.fab_certify.specs.Numbered.{IsNumberedBy, IsNumberedPlan}
+use Rattle.fab_certify.specs.Numbered.{IsNumberedPlan}
 use Rattle.fab_certify.specs.Certificate.{IsCertificate, IsCertificateBy}
 use Rattle.fab_certify.proofs.Numbering.{numbered_is_certified}
 

@@ -1,5 +1,5 @@
 -- Nodes that are not taken, each of which has such a predecessor, lie behind a closed walk.
-use Rattle.std.proofs.Common.{◌≡◌, ◌≢◌, ℕ, zero, suc, ◌+◌, ◌<◌, ◌≤◌, Bool, true, false, eqb, List, [], ◌∷◌, length, ◌∙◌, sym, ap, subst, refl, inl, inr, ◌⊎◌, arith, ◌||◌}
+use Rattle.std.proofs.Common.{◌≡◌, ℕ, zero, suc, ◌+◌, ◌<◌, ◌≤◌, true, false, eqb, List, [], ◌∷◌, length, ◌∙◌, sym, ap, refl, inl, inr, ◌⊎◌, arith}
 use Rattle.std.specs.List.{list_any, IsDistinct, AllByRecursion}
 use Rattle.std.proofs.lemmas.Bool.{eqb-true, eq-eqb, cases_lt, cases_Bool, or_parts, or_cases, or_left}
 use Rattle.std.proofs.lemmas.List.{get_or_past}

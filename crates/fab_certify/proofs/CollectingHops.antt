@@ -1,12 +1,11 @@
 -- The hops of a route are collected one after the other.
-use Rattle.std.proofs.Common.{◌≡◌, ◌≢◌, ℕ, zero, suc, ◌+◌, ◌*◌, ◌<◌, ◌≤◌, ◌^◌, List, [], ◌∷◌, length, refl, sym, ◌∙◌, ap, subst, inl, inr, ◌⊎◌, arith, Contains, Some, None, Option}
+use Rattle.std.proofs.Common.{◌≡◌, ℕ, suc, ◌+◌, ◌*◌, ◌<◌, ◌≤◌, ◌^◌, List, length, refl, sym, ◌∙◌, ap, subst, inl, inr, arith, Contains, Some, None, Option}
 use Rattle.std.specs.Prelude.{IfSome, slice_get}
 use Rattle.std.proofs.lemmas.Bool.{cases_lt}
 use Rattle.std.proofs.lemmas.Nat.{mul-add-lt}
-use Rattle.std.proofs.lemmas.Option.{same_Some, none-some, slice_get_within}
+use Rattle.std.proofs.lemmas.Option.{same_Some, none-some}
 use Rattle.fab_model.specs.Connected.{IsConnectedTo}
 use Rattle.std.proofs.Math.Nat.{mul-le-mul_left}
-use Rattle.fab_model.specs.Faults.{switch_limit, port_limit}
 use Rattle.fab_model.specs.WellFormed.{IsFabric}
 use Rattle.fab_model.specs.declared.rows.Lid.{Lid}
 use Rattle.fab_model.specs.declared.rows.TerminalRow.{TerminalRow}
@@ -14,16 +13,14 @@ use Rattle.fab_model.specs.Topology.{Topology}
 use Rattle.fab_tables.specs.declared.verdict.VirtualChannel.{VirtualChannel}
 use Rattle.fab_tables.specs.Entries.{Entries}
 use Rattle.fab_tables.specs.LaneTables.{LaneTables}
-use Rattle.fab_tables.specs.VirtualChannels.{virtual_channels, Follow}
+use Rattle.fab_tables.specs.VirtualChannels.{virtual_channels}
 use Rattle.fab_tables.specs.Dependencies.{IsPath, IsUsed, Depends, DependsByNode, node_of}
-use Rattle.fab_tables.specs.Verdicts.{IsHop}
 use Rattle.fab_tables.proofs.CertifiedLaws.{contains_of}
 use Rattle.fab_certify.specs.declared.starts.Start.{Start}
-use Rattle.fab_certify.specs.Starts.{start_of}
 use Rattle.fab_certify.specs.Numbered.{IsSound}
 use Rattle.fab_certify.specs.Structural.{StartsAt}
 use Rattle.fab_certify.specs.Collected.{Collected, IsMarked, Grows, AddsHop, IsFromRoutes, HasHops, HasRoutes}
-use Rattle.fab_certify.proofs.HopsAlong.{hops_from, same_hops, hop_of}
+use Rattle.fab_certify.proofs.HopsAlong.{hops_from, same_hops}
 
 -- the number of the hop before, if there is one
 abbrev pub IsLastNode : ℕ → List VirtualChannel → ℕ → Option ℕ → Type 0

@@ -1,13 +1,13 @@
 -- The edges to a node from others that are not taken.
-use Rattle.std.proofs.Common.{◌≡◌, ◌≢◌, ℕ, suc, ◌+◌, ◌<◌, ◌≤◌, Bool, true, false, cond, List, [], ◌∷◌, length, map, ◌∙◌, sym, ap, subst, refl, inl, inr, ◌⊎◌, arith, get_or-set_same, get_or-set_other, Contains, filter, All}
-use Rattle.std.specs.Prelude.{◌==◌, ◌&&◌, slice_index_or, slice_set}
+use Rattle.std.proofs.Common.{◌≡◌, ◌≢◌, ℕ, ◌+◌, ◌<◌, Bool, true, false, List, [], ◌∷◌, length, ◌∙◌, ap, subst, refl, inl, inr, ◌⊎◌, arith, get_or-set_same, get_or-set_other, Contains}
+use Rattle.std.specs.Prelude.{◌==◌, ◌&&◌, slice_set}
 use Rattle.std.proofs.lemmas.Bool.{eq-eqb, ne_eqb, eqb-true, cases_eq, cases_lt, and_parts, and_from}
 use Rattle.std.proofs.lemmas.List.Sums.{sum_by-cons}
 use Rattle.fab_graph.specs.Walks.{IsEdge}
-use Rattle.fab_certify.specs.Neighbours.{successors_of, predecessors_of}
+use Rattle.fab_certify.specs.Neighbours.{successors_of}
 use Rattle.fab_certify.specs.Layers.{times, level_of, edges_left}
 use Rattle.fab_certify.proofs.EdgesOf.{leaving, heads_if}
-use Rattle.fab_certify.proofs.Times.{one_if, one_if_same, none_if_other, times_front, some_counted, counted_there}
+use Rattle.fab_certify.proofs.Times.{one_if, times_front, some_counted, counted_there}
 
 counted : (p q : Bool) → q ≡ true → one_if (p && q) ≡ one_if p
 counted true q e = ap one_if e

@@ -1,7 +1,7 @@
 -- The edges of a node, and the lists of its neighbours.
-use Rattle.std.proofs.Common.{◌≡◌, ◌≢◌, ℕ, zero, suc, ◌+◌, ◌<◌, ◌≤◌, Bool, true, false, cond, List, [], ◌∷◌, length, map, ◌∙◌, sym, ap, subst, refl, inl, inr, ◌⊎◌, arith, Contains, filter, All}
+use Rattle.std.proofs.Common.{◌≡◌, ◌≢◌, ℕ, zero, suc, ◌<◌, Bool, true, false, cond, List, [], ◌∷◌, length, map, ◌∙◌, sym, ap, subst, refl, inl, inr, ◌⊎◌, arith, Contains, filter, All}
 use Rattle.std.specs.Prelude.{◌==◌, slice_index_or}
-use Rattle.std.proofs.lemmas.Bool.{eq-eqb, ne_eqb, cases_eq, cases_Bool}
+use Rattle.std.proofs.lemmas.Bool.{eq-eqb, ne_eqb, cases_eq}
 use Rattle.std.proofs.lemmas.List.Elements.{All-map, All-filter}
 use Rattle.fab_graph.specs.Walks.{IsEdge}
 use Rattle.fab_certify.specs.EdgeList.{EdgeList, IsGraph}

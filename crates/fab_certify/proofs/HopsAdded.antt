@@ -1,14 +1,13 @@
 -- A hop is added to what is collected.
-use Rattle.std.proofs.Common.{◌≡◌, ◌≢◌, ℕ, zero, suc, ◌<◌, Bool, true, false, not, List, [], ◌∷◌, length, refl, sym, ◌∙◌, ap, subst, inl, inr, ◌⊎◌, arith, Contains, All, MatchBool, Some, None, Option, ◌||◌, get_or-set_same, get_or-set_other}
+use Rattle.std.proofs.Common.{◌≡◌, ◌≢◌, ℕ, zero, suc, ◌<◌, Bool, true, false, not, List, [], ◌∷◌, length, refl, sym, ◌∙◌, ap, subst, inl, inr, ◌⊎◌, arith, Contains, MatchBool, Some, None, get_or-set_same, get_or-set_other}
 use Rattle.std.specs.Prelude.{◌==◌, ◌&&◌, slice_index_or, slice_set}
 use Rattle.std.specs.List.{list_any}
 use Rattle.std.specs.List.Sorted.{IsPermutation}
-use Rattle.std.proofs.lemmas.Bool.{eqb-true, and_parts, or_cases, cases_eq, cases_lt, false≢true}
+use Rattle.std.proofs.lemmas.Bool.{eqb-true, and_parts, or_cases, cases_eq, false≢true}
 use Rattle.std.proofs.lemmas.List.{length-set}
 use Rattle.std.proofs.lemmas.List.Elements.{Contains-get_or, All-contains}
 use Rattle.std.proofs.lemmas.List.Sorted.{IsPermutation-sym, Contains-permutation}
-use Rattle.std.proofs.lemmas.Option.{same_Some}
-use Rattle.fab_certify.specs.Collected.{Collected, AreCollected, IsMarked, Grows, AddsHop}
+use Rattle.fab_certify.specs.Collected.{AreCollected, AddsHop}
 
 abbrev pub same_pair : (ℕ × ℕ) → (ℕ × ℕ) → Bool
 same_pair x y = (x.0 == y.0) && (x.1 == y.1)

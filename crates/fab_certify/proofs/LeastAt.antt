@@ -1,9 +1,8 @@
 -- The least of the nodes at a distance is found one by one.
-use Rattle.std.proofs.Common.{◌≡◌, ◌≢◌, ℕ, ◌+◌, ◌<◌, ◌≤◌, List, length, take, min, sym, ap, subst, refl, inl, inr, arith, MatchOption, Option, Some, None}
+use Rattle.std.proofs.Common.{◌≡◌, ◌≢◌, ℕ, ◌+◌, ◌<◌, ◌≤◌, List, length, take, min, sym, subst, refl, inl, inr, arith, MatchOption, Option, Some, None}
 use Rattle.std.specs.Prelude.{slice_index_or}
 use Rattle.std.proofs.lemmas.Bool.{cases_eq, cases_lt}
 use Rattle.fab_graph.specs.Least.{IsLeast}
-use Rattle.fab_certify.specs.Layers.{times}
 use Rattle.fab_certify.specs.Nearness.{near_of, StandsAtDistance}
 use Rattle.fab_certify.proofs.Times.{one_if_same, none_if_other, times_more}
 

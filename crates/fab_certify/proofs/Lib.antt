@@ -36,5 +36,9 @@ pub mod Certificates
 pub mod Plainly
 pub mod Numbering
 pub mod Lanewise
+pub mod SameLanes
+pub mod ImageWalks
+pub mod ReadAlike
+pub mod OneCertificate
 pub mod Examples
 pub mod CertificateExample

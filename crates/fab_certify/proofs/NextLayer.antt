@@ -1,5 +1,5 @@
 -- From one layer to the next.
-use Rattle.std.proofs.Common.{◌≡◌, ◌≢◌, ℕ, ◌+◌, ◌<◌, ◌≤◌, List, [], ◌∷◌, length, replicate, ◌∙◌, sym, ap, subst, refl, inl, inr, arith}
+use Rattle.std.proofs.Common.{◌≡◌, ℕ, ◌+◌, ◌<◌, ◌≤◌, List, [], ◌∷◌, length, replicate, ◌∙◌, inl, inr, arith}
 use Rattle.std.specs.Prelude.{◌==◌}
 use Rattle.std.proofs.lemmas.Bool.{cases_lt}
 use Rattle.std.proofs.lemmas.List.{length-replicate, get_or_past, get_or_default}
@@ -10,7 +10,7 @@ use Rattle.fab_certify.specs.Layers.{times, times_ready, untaken, level_of, left
 use Rattle.fab_certify.proofs.Times.{counts_there, ready_now, ready_not_left}
 use Rattle.fab_certify.proofs.EdgesOf.{ends_low}
 use Rattle.fab_certify.proofs.EdgesLeft.{some_left, none_left}
-use Rattle.fab_certify.proofs.TakingNodes.{is_ready, node_low, first_ready, first_low}
+use Rattle.fab_certify.proofs.TakingNodes.{is_ready, first_ready, first_low}
 use Rattle.fab_certify.proofs.FreeNodes.{level_at_first}
 
 module _ (g : EdgeList) (kept : IsGraph g) where

@@ -1,5 +1,5 @@
 -- The levels of the dependencies, as numbers, make the numbered plan.
-use Rattle.std.proofs.Common.{◌≡◌, ℕ, zero, suc, ◌+◌, ◌*◌, ◌/◌, ◌%◌, ◌<◌, ◌≤◌, Bool, true, false, List, length, refl, sym, ◌∙◌, ap, subst, inl, inr, ◌⊎◌, arith, Contains, Some, None, Option}
+use Rattle.std.proofs.Common.{◌≡◌, ℕ, ◌+◌, ◌*◌, ◌/◌, ◌%◌, ◌<◌, ◌≤◌, Bool, true, false, List, length, refl, sym, ◌∙◌, ap, subst, inl, inr, arith, Some, None, Option}
 use Rattle.std.specs.Prelude.{IsSome, MatchOption, nat_lt, if◌then◌else◌, slice_index_or}
 use Rattle.std.proofs.lemmas.Bool.{cases_lt, cond-true, cond-false, lt-ltb, le-ltb}
 use Rattle.std.proofs.lemmas.List.{get_or_past, get_or_default}
@@ -7,8 +7,6 @@ use Rattle.std.proofs.lemmas.Nat.{div-mul-add, mod-mul-add}
 use Rattle.fab_graph.specs.Walks.{IsEdge, SameGraph, HasClosedWalk, IsAcyclic}
 use Rattle.fab_graph.specs.Rings.{IsFirstRing}
 use Rattle.fab_graph.proofs.Same.{same_first_ring}
-use Rattle.fab_graph.specs.Levels.{AreLevels}
-use Rattle.fab_model.specs.declared.rows.ChannelId.{ChannelId}
 use Rattle.fab_model.specs.Topology.{Topology}
 use Rattle.fab_tables.specs.declared.verdict.VirtualChannel.{VirtualChannel}
 use Rattle.fab_tables.specs.Entries.{Entries, cell}
@@ -16,8 +14,8 @@ use Rattle.fab_tables.specs.LaneTables.{LaneTables}
 use Rattle.fab_tables.specs.Fit.{LanesFit}
 use Rattle.fab_tables.specs.Dependencies.{IsUsed, Depends, DependsByNode, node_of}
 use Rattle.fab_tables.specs.Certified.{number_of}
-use Rattle.fab_certify.specs.Collected.{Collected, IsMarked, AreDependencies}
-use Rattle.fab_certify.specs.EdgeList.{EdgeList, AreNodeLevels}
+use Rattle.fab_certify.specs.Collected.{Collected, AreDependencies}
+use Rattle.fab_certify.specs.EdgeList.{AreNodeLevels}
 use Rattle.fab_certify.specs.Numbers.{number_given, HasNumbers}
 use Rattle.fab_certify.specs.Numbered.{IsNumberedBy, IsSound}
 use Rattle.fab_certify.proofs.CollectingHops.{node_low}
@@ -38,7 +36,7 @@ dependency_ring t e l c edges ring are same first =
     same_first_ring (IsEdge c.pairs) (DependsByNode t e l) (same_dependencies t e l c are) ring (subst (λ ps. IsFirstRing (IsEdge ps) ring) same first)
 
 -- virtual channels on lanes below the count have numbers of their own
-one_node : (count : ℕ) (v w : VirtualChannel) → v.lane < count → w.lane < count → node_of count v ≡ node_of count w → v ≡ w
+pub one_node : (count : ℕ) (v w : VirtualChannel) → v.lane < count → w.lane < count → node_of count v ≡ node_of count w → v ≡ w
 one_node count v w a b same =
     let channels : v.channel.0 ≡ w.channel.0 = sym (div-mul-add v.channel.0 count v.lane a) ∙ ap (λ n. n / count) same ∙ div-mul-add w.channel.0 count w.lane b in
     let lanes : v.lane ≡ w.lane = sym (mod-mul-add v.channel.0 count v.lane a) ∙ ap (λ n. n % count) same ∙ mod-mul-add w.channel.0 count w.lane b in

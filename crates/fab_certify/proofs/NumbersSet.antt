@@ -1,12 +1,11 @@
 -- One number more is set.
-use Rattle.std.proofs.Common.{◌≡◌, ◌≢◌, ℕ, ◌+◌, ◌*◌, ◌<◌, ◌≤◌, ◌^◌, Bool, true, false, List, length, refl, sym, ◌∙◌, ap, subst, inl, inr, ◌⊎◌, arith, length-set}
-use Rattle.std.specs.Prelude.{◌==◌, ◌&&◌, All, if◌then◌else◌}
+use Rattle.std.proofs.Common.{◌≡◌, ℕ, ◌+◌, ◌*◌, ◌<◌, ◌≤◌, ◌^◌, false, List, refl, sym, ◌∙◌, ap, subst, inl, inr, ◌⊎◌, arith, length-set}
+use Rattle.std.specs.Prelude.{◌==◌, ◌&&◌, if◌then◌else◌}
 use Rattle.std.proofs.lemmas.Bool.{cases_lt, cases_eq, eq-eqb, ne_eqb, and_from, and_left, and_right, cond-true, cond-false}
 use Rattle.std.proofs.lemmas.List.Elements.{All-set}
 use Rattle.fab_model.specs.declared.rows.ChannelId.{ChannelId}
 use Rattle.fab_tables.specs.declared.verdict.VirtualChannel.{VirtualChannel}
-use Rattle.fab_tables.specs.LaneTables.{LaneTables, AreLaneTables, number, with_number}
-use Rattle.fab_tables.specs.Dependencies.{node_of}
+use Rattle.fab_tables.specs.LaneTables.{LaneTables, AreLaneTables, with_number}
 use Rattle.fab_tables.specs.Certified.{number_of}
 use Rattle.fab_tables.proofs.Cells.{one_number_changes}
 use Rattle.fab_certify.specs.Collected.{Collected}

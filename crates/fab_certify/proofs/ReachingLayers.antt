@@ -1,5 +1,5 @@
 -- The nodes at one distance, and then those at the next.
-use Rattle.std.proofs.Common.{◌≡◌, ◌≢◌, ℕ, zero, suc, ◌+◌, ◌<◌, ◌≤◌, List, [], ◌∷◌, length, replicate, ◌∙◌, sym, ap, subst, refl, inl, inr, ◌⊎◌, arith, All}
+use Rattle.std.proofs.Common.{◌≡◌, ◌≢◌, ℕ, zero, suc, ◌+◌, ◌<◌, ◌≤◌, List, [], ◌∷◌, length, replicate, ◌∙◌, sym, subst, refl, inl, inr, ◌⊎◌, arith, All}
 use Rattle.std.specs.Prelude.{slice_index_or}
 use Rattle.std.proofs.lemmas.Bool.{cases_eq, cases_lt}
 use Rattle.std.proofs.lemmas.List.{length-replicate, get_or_past, get_or-replicate}
@@ -11,7 +11,7 @@ use Rattle.fab_certify.specs.Neighbours.{predecessors_of}
 use Rattle.fab_certify.specs.Layers.{times}
 use Rattle.fab_certify.specs.Nearness.{near_of, AreNear, IsBefore, IsReaching, ReachesTails}
 use Rattle.fab_certify.proofs.EdgesOf.{predecessor_edge, predecessor_there}
-use Rattle.fab_certify.proofs.Times.{one_if, one_if_same, none_if_other, times_front, stands_there, counts_there}
+use Rattle.fab_certify.proofs.Times.{one_if_same, none_if_other, times_front, stands_there, counts_there}
 
 module _ (g : EdgeList) (end : ℕ) where
   abbrev R : ℕ → ℕ → Type 0

@@ -1,8 +1,8 @@
 -- From the first fault to the refusal, or to a sound plan.
-use Rattle.std.proofs.Common.{◌≡◌, ◌≢◌, ℕ, zero, suc, ◌<◌, ◌≤◌, List, [], ◌∷◌, length, refl, sym, ◌∙◌, ap, subst, inl, inr, ◌⊎◌, arith, Some, None, Option, Contains, slice_get}
+use Rattle.std.proofs.Common.{◌≡◌, ℕ, ◌<◌, List, [], ◌∷◌, refl, sym, subst, inl, inr, ◌⊎◌, arith, Some, None, Option, slice_get}
 use Rattle.std.specs.Prelude.{IsSome, is_some, false, MatchOption}
 use Rattle.std.proofs.lemmas.Bool.{cases_lt}
-use Rattle.std.proofs.lemmas.Option.{same_Some, none-some, slice_get-get_or}
+use Rattle.std.proofs.lemmas.Option.{same_Some, none-some}
 use Rattle.fab_model.specs.declared.rows.ChannelRow.{ChannelRow}
 use Rattle.fab_model.specs.declared.rows.TerminalRow.{TerminalRow}
 use Rattle.fab_model.specs.Topology.{Topology, lid_id}
@@ -12,9 +12,9 @@ use Rattle.fab_tables.specs.declared.verdict.Verdict.TheVariants.{Routes, Lanes,
 use Rattle.fab_tables.specs.Entries.{Entries}
 use Rattle.fab_tables.specs.LaneTables.{LaneTables, level}
 use Rattle.fab_tables.specs.VirtualChannels.{virtual_channels}
-use Rattle.fab_tables.specs.Dependencies.{IsPath, IsUsed}
+use Rattle.fab_tables.specs.Dependencies.{IsPath}
 use Rattle.fab_tables.specs.Certified.{Reaches}
-use Rattle.fab_tables.specs.Verdicts.{IsBefore, IsFirst, IsHop, Leaves, IsLaneFaultAt, IsFaultAt, IsStructural, IsRefusal}
+use Rattle.fab_tables.specs.Verdicts.{IsBefore, IsFirst, IsHop, IsLaneFaultAt, IsFaultAt, IsStructural, IsRefusal}
 use Rattle.fab_tables.proofs.CertifiedLaws.{get_of, routes_reaches}
 use Rattle.fab_tables.proofs.PlainLaws.{source_of}
 use Rattle.fab_certify.specs.First.{FindsFirst}
@@ -26,11 +26,11 @@ use Rattle.fab_certify.proofs.StartFaults.{IsOfLid, of_lid}
 
 module _ (t : Topology) (e : Entries) (l : LaneTables) where
   -- what can be refused
-  abbrev IsRefused : List ℕ → Verdict → Type 0
+  abbrev pub IsRefused : List ℕ → Verdict → Type 0
   IsRefused place fault = IsStructural fault × IsFaultAt t e (Some l) place fault
 
   -- a fault of a route, or a structural one of the lanes
-  either : (place : List ℕ) (fault : Verdict) → IsRefused place fault → IsFaultAt t e None place fault ⊎ IsStructuralAt t e l place fault
+  pub either : (place : List ℕ) (fault : Verdict) → IsRefused place fault → IsFaultAt t e None place fault ⊎ IsStructuralAt t e l place fault
   either place (Unreached lid s end) f = inl f.1
   either place Routes f = absurd f.1.2
   either place Lanes f = absurd f.1.2

@@ -1,11 +1,11 @@
 -- The first node of the rest of a layer is taken.
-use Rattle.std.proofs.Common.{◌≡◌, ◌≢◌, ℕ, ◌+◌, ◌<◌, ◌≤◌, List, [], ◌∷◌, length, ◌∙◌, sym, ap, subst, refl, inl, inr, ◌⊎◌, arith, get_or-set_same, get_or-set_other}
-use Rattle.std.specs.Prelude.{◌==◌, slice_index_or, slice_set, All}
+use Rattle.std.proofs.Common.{◌≡◌, ◌≢◌, ℕ, ◌+◌, ◌<◌, ◌≤◌, List, ◌∷◌, length, ◌∙◌, sym, ap, subst, refl, inl, inr, ◌⊎◌, arith, get_or-set_same, get_or-set_other}
+use Rattle.std.specs.Prelude.{◌==◌, slice_set}
 use Rattle.std.proofs.lemmas.Bool.{cases_eq, cases_lt}
 use Rattle.std.proofs.lemmas.List.{length-set, get_or_past}
 use Rattle.std.proofs.lemmas.List.Sums.{sum_by-set}
 use Rattle.fab_graph.specs.Walks.{IsEdge}
-use Rattle.fab_certify.specs.EdgeList.{EdgeList, IsGraph}
+use Rattle.fab_certify.specs.EdgeList.{EdgeList}
 use Rattle.fab_certify.specs.Neighbours.{successors_of}
 use Rattle.fab_certify.specs.Layers.{times, times_ready, times_freed, untaken, level_of, left_of, edges_left, IsTaking, TakesEdges}
 use Rattle.fab_certify.proofs.Times.{one_if, one_if_same, none_if_other, times_front, freed_now, freed_not, freed_never, ready_now, ready_not_taken, ready_not_left}

@@ -1,8 +1,8 @@
 -- How often a number stands in a list.
-use Rattle.std.proofs.Common.{◌≡◌, ◌≢◌, ℕ, zero, suc, ◌+◌, ◌<◌, ◌≤◌, Bool, true, false, cond, List, [], ◌∷◌, ◌++◌, length, take, ◌∙◌, sym, ap, subst, refl, inl, inr, arith}
-use Rattle.std.specs.Prelude.{◌==◌, slice_index_or, Contains, count_by, nat_lt, ◌&&◌}
-use Rattle.std.proofs.lemmas.Bool.{eq-eqb, ne_eqb, cases_eq, cases_Bool, eqb-true, cond-true, cond-false, lt-ltb, le-ltb, and_from, and_left, and_right}
-use Rattle.std.proofs.lemmas.List.Sums.{sum_by-cons, sum_by_push, sum_by_more, sum_by_more_le, get_or-le-sum_by, sum_by-append}
+use Rattle.std.proofs.Common.{◌≡◌, ◌≢◌, ℕ, suc, ◌+◌, ◌<◌, ◌≤◌, Bool, true, cond, List, [], ◌∷◌, ◌++◌, length, take, ap, subst, refl, inl, inr, arith}
+use Rattle.std.specs.Prelude.{◌==◌, slice_index_or, Contains, count_by, nat_lt}
+use Rattle.std.proofs.lemmas.Bool.{eq-eqb, ne_eqb, cases_Bool, eqb-true, lt-ltb, le-ltb, and_from, and_left, and_right}
+use Rattle.std.proofs.lemmas.List.Sums.{sum_by-cons, sum_by_push, sum_by_more, sum_by_more_le, get_or-le-sum_by}
 use Rattle.fab_certify.specs.Layers.{times, times_freed, times_ready}
 
 abbrev pub one_if : Bool → ℕ

@@ -21,7 +21,10 @@ mod starts;
 
 pub use certified::{Certified, certify};
 pub use graph::Graph;
-pub use laws::{numbered_is_certified, plain_certificate, refusal_is_unsound};
+pub use laws::{numbered_is_certified, one_certificate, plain_certificate, refusal_is_unsound};
 pub use layers::levels;
 pub use ring::Ring;
 pub use rings::first_ring;
+
+#[cfg(test)]
+mod tests;

@@ -1,91 +1,205 @@
 -- The reader after a head.
-use Rattle.std.proofs.Common.{◌≡◌, ℕ, ◌<◌, Bool, true, false, List, [], ◌∷◌, ◌++◌, length, length-set, replicate, get_or, Some, None, Option, refl, sym, ◌∙◌, ap, arith}
-use Rattle.std.specs.Prelude.{Vec, if◌then◌else◌, option_map}
+use Rattle.std.proofs.Common.{◌≡◌, ℕ, ◌<◌, Bool, true, false, List, [], ◌∷◌, ◌++◌, length, length-set, replicate, get_or, Some, None, Option, Result, refl, sym, ◌∙◌, ap, subst, arith}
+use Rattle.std.specs.Prelude.{Vec, if◌then◌else◌, option_map, is_some, fold}
 use Rattle.std.specs.declared.alloc.Global.{Global}
 use Rattle.std.specs.Vec.{with_item}
 use Rattle.std.proofs.lemmas.Iterator.Adapters.{option_map_id}
 use Rattle.std.proofs.lemmas.List.{length-replicate, get_or-replicate}
 use Rattle.fab_model.specs.declared.rows.SwitchId.{SwitchId}
-use Rattle.fab_model.specs.Topology.{Topology, lids_of, switch_id, switch_of}
+use Rattle.fab_model.specs.Topology.{Topology, lids_of, switch_id, switch_of, is_source}
 use Rattle.fab_tables.specs.declared.plan.Plan.{Plan}
 use Rattle.fab_tables.proofs.Cells.{index_found}
-use Rattle.fab_dump.specs.declared.form.Block.TheVariants.{Table}
+use Rattle.fab_dump.specs.declared.fault.PlanFault.{PlanFault}
+use Rattle.fab_dump.specs.declared.form.Block.{Block}
+use Rattle.fab_dump.specs.declared.form.Block.TheVariants.{Table, Levels, MapRow, Numbers}
 use Rattle.fab_dump.specs.declared.reader.PlanReader.{PlanReader}
-use Rattle.fab_dump.specs.Given.{Given, was_given, plan_given}
-use Rattle.fab_dump.specs.Given.Given.{TableBlock, Port}
-use Rattle.fab_dump.specs.declared.fault.PlanFault.TheVariants.{BadRow, TwiceBlock}
-use Rattle.fab_dump.specs.declared.form.Version.{Version}
-use Rattle.fab_dump.specs.declared.form.Version.TheVariants.{Dump}
-use Rattle.fab_dump.specs.Lines.{Form, State, says_one_lid, goes, table_of, table_head}
+use Rattle.fab_dump.specs.Given.{Given, was_given, lanes_with, plan_with, plan_given}
+use Rattle.fab_dump.specs.Given.Given.{TableBlock, Port, LevelBlock, Level, MapBlock, Certificate}
+use Rattle.fab_dump.specs.Lines.{Form, State, Next, a_source, adds, goes, table_of, table_head}
 use Rattle.fab_dump.specs.Lines.Next.{Goes, Fails}
 use Rattle.fab_dump.specs.Orderly.{IsOrderly}
-use Rattle.fab_dump.specs.Standing.{Stands, AreRowMarks}
-use Rattle.fab_dump.proofs.Marks.{plan_given-push, mark_set, not_of, same_switch}
+use Rattle.fab_dump.specs.Standing.{Stands, AreRowMarks, Says}
+use Rattle.fab_dump.proofs.Marks.{marks_stay, mark_set, not_of, now_of, same_switch}
+use Rattle.fab_dump.proofs.PlansOver.{plan_said}
 
 -- a head says nothing of the plan
-plan_with_head : (t : Topology) (count : Option ℕ) (given : List Given) (p : Plan) (switch : ℕ) →
-    p ≡ plan_given t count given → p ≡ plan_given t count (given ++ TableBlock switch ∷ [])
-plan_with_head t count given p switch is =
-    is ∙ ap (λ l. record { tables = (plan_given t count given).tables; lanes = l }) (sym (option_map_id ((plan_given t count given).lanes)))
-    ∙ sym (plan_given-push t count given (TableBlock switch))
+silent : (p : Plan) → p ≡ record { tables = p.tables; lanes = option_map (λ l. l) p.lanes }
+silent p = ap (λ l. record { tables = p.tables; lanes = l }) (sym (option_map_id p.lanes))
 
 no_marks : (lids : List ℕ) (statement : ℕ → Given) (given : List Given) (marks : List Bool) → marks ≡ replicate (length lids) false →
     ((lid : ℕ) → was_given given (statement lid) ≡ false) → AreRowMarks lids statement given marks
 no_marks lids statement given marks none h = λ lid place found.
     ap (λ ms. get_or ms place false) none ∙ get_or-replicate (length lids) place false false (index_found lid lids place found).0 ∙ sym (h lid)
 
-pub after_table_head : (t : Topology) (f : Form) (s : State) (r : PlanReader) (switch : SwitchId) (rows : Vec Bool Global) →
-    Stands t f s r → IsOrderly t f s → was_given s.given (TableBlock switch.0) ≡ false → switch.0 < length t.switches → rows.items ≡ replicate (length r.rows.items) false →
-    Stands t f (record { open_block = Table (Some (switch_id switch.0)); given = s.given ++ TableBlock switch.0 ∷ [] })
-    (record r { block = Table (Some switch); table_blocks = with_item r.table_blocks switch.0 true; rows = rows })
-after_table_head t f s r switch rows stands orderly new low none = record {
-  fits = record {
-    block = low;
-    switches = stands.fits.switches;
-    in_use = stands.fits.in_use;
-    lids = stands.fits.lids;
-    table_marks = length-set r.table_blocks.items switch.0 true ∙ stands.fits.table_marks;
-    row_marks = ap length none ∙ length-replicate (length r.rows.items) false ∙ stands.fits.row_marks;
-  };
-  version = stands.version;
-  block = refl;
-  plan = plan_with_head t f.count s.given r.plan switch.0 stands.plan;
-  tables = mark_set (length t.switches) TableBlock s.given r.table_blocks.items switch.0 (λ other. same_switch switch.0 other) (omega (arith, low, stands.fits.table_marks)) stands.tables;
-  rows = no_marks (lids_of t) (λ lid. Port switch.0 lid 0) (s.given ++ TableBlock switch.0 ∷ []) rows.items (none ∙ ap (λ n. replicate n false) stands.fits.row_marks)
-      (λ lid. not_of s.given (TableBlock switch.0) (Port switch.0 lid 0) refl ∙ orderly.tables switch.0 lid new);
-}
+module _ (t : Topology) (f : Form) (s : State) (r : PlanReader) (stands : Stands t f s r) where
+  pub after_table_head : (switch : SwitchId) (rows : Vec Bool Global) → IsOrderly t f s → was_given s.given (TableBlock switch.0) ≡ false → switch.0 < length t.switches →
+      rows.items ≡ replicate (length r.rows.items) false →
+      Stands t f (record { open_block = Table (Some (switch_id switch.0)); given = s.given ++ TableBlock switch.0 ∷ [] })
+      (record r { block = Table (Some switch); table_blocks = with_item r.table_blocks switch.0 true; rows = rows })
+  after_table_head switch rows orderly new low none = record {
+    fits = record {
+      fabric = stands.fits.fabric;
+      block = low;
+      plan = stands.fits.plan;
+      lids = stands.fits.lids;
+      table_marks = length-set r.table_blocks.items switch.0 true ∙ stands.fits.table_marks;
+      level_marks = stands.fits.level_marks;
+      map_marks = stands.fits.map_marks;
+      row_marks = ap length none ∙ length-replicate (length r.rows.items) false ∙ stands.fits.row_marks;
+    };
+    version = stands.version;
+    block = refl;
+    plan = plan_said t f.count s.given r.plan r.plan (TableBlock switch.0) stands.plan (silent r.plan);
+    tables = mark_set (length t.switches) TableBlock s.given r.table_blocks.items switch.0 (λ other. same_switch switch.0 other) (omega (arith, low, stands.fits.table_marks)) stands.tables;
+    levels = marks_stay (length t.switches) LevelBlock s.given (TableBlock switch.0) r.level_blocks.items (λ s. refl) stands.levels;
+    maps = marks_stay (length t.switches) MapBlock s.given (TableBlock switch.0) r.map_blocks.items (λ s. refl) stands.maps;
+    certificate = stands.certificate ∙ sym (not_of s.given (TableBlock switch.0) Certificate refl);
+    rows = no_marks (lids_of t) (λ lid. Port switch.0 lid 0) (s.given ++ TableBlock switch.0 ∷ []) rows.items (none ∙ ap (λ n. replicate n false) stands.fits.row_marks)
+        (λ lid. not_of s.given (TableBlock switch.0) (Port switch.0 lid 0) refl ∙ orderly.tables switch.0 lid new);
+  }
 
-pub table_new : (f : Form) (n : ℕ) (s : State) (switch : ℕ) → was_given s.given (TableBlock switch) ≡ false →
-    table_of f n s (Some switch) ≡ Goes (record { open_block = Table (Some (switch_id switch)); given = s.given ++ TableBlock switch ∷ [] })
-table_new f n s switch new = ap (λ b. if b then Fails (TwiceBlock n) else goes s (Table (Some (switch_id switch))) (TableBlock switch ∷ [])) new
+  pub after_levels_head : (switch : SwitchId) (rows : Vec Bool Global) → IsOrderly t f s → was_given s.given (LevelBlock switch.0) ≡ false → switch.0 < length t.switches →
+      rows.items ≡ replicate (length r.rows.items) false →
+      Stands t f (record { open_block = Levels (switch_id switch.0); given = s.given ++ LevelBlock switch.0 ∷ [] })
+      (record r { block = Levels switch; level_blocks = with_item r.level_blocks switch.0 true; rows = rows })
+  after_levels_head switch rows orderly new low none = record {
+    fits = record {
+      fabric = stands.fits.fabric;
+      block = low;
+      plan = stands.fits.plan;
+      lids = stands.fits.lids;
+      table_marks = stands.fits.table_marks;
+      level_marks = length-set r.level_blocks.items switch.0 true ∙ stands.fits.level_marks;
+      map_marks = stands.fits.map_marks;
+      row_marks = ap length none ∙ length-replicate (length r.rows.items) false ∙ stands.fits.row_marks;
+    };
+    version = stands.version;
+    block = refl;
+    plan = plan_said t f.count s.given r.plan r.plan (LevelBlock switch.0) stands.plan (silent r.plan);
+    tables = marks_stay (length t.switches) TableBlock s.given (LevelBlock switch.0) r.table_blocks.items (λ s. refl) stands.tables;
+    levels = mark_set (length t.switches) LevelBlock s.given r.level_blocks.items switch.0 (λ other. same_switch switch.0 other) (omega (arith, low, stands.fits.level_marks)) stands.levels;
+    maps = marks_stay (length t.switches) MapBlock s.given (LevelBlock switch.0) r.map_blocks.items (λ s. refl) stands.maps;
+    certificate = stands.certificate ∙ sym (not_of s.given (LevelBlock switch.0) Certificate refl);
+    rows = no_marks (lids_of t) (λ lid. Level switch.0 lid None) (s.given ++ LevelBlock switch.0 ∷ []) rows.items (none ∙ ap (λ n. replicate n false) stands.fits.row_marks)
+        (λ lid. not_of s.given (LevelBlock switch.0) (Level switch.0 lid None) refl ∙ orderly.levels switch.0 lid new);
+  }
 
--- a head of a switch that isn't in the fabric, in a plain dump
-strange_head : (f : Form) (n : ℕ) (s : State) → f.version ≡ Dump → table_of f n s None ≡ Goes (record { open_block = Table None; given = s.given })
-strange_head f n s dump = ap (λ (v : Version). if says_one_lid v then Goes (record { open_block = Table None; given = s.given }) else Fails (BadRow n)) dump
+  pub after_map_head : (switch : SwitchId) → switch.0 < length t.switches →
+      Stands t f (record { open_block = MapRow (switch_id switch.0); given = s.given ++ MapBlock switch.0 ∷ [] }) (record r { block = MapRow switch; map_blocks = with_item r.map_blocks switch.0 true })
+  after_map_head switch low = record {
+    fits = record {
+      fabric = stands.fits.fabric;
+      block = low;
+      plan = stands.fits.plan;
+      lids = stands.fits.lids;
+      table_marks = stands.fits.table_marks;
+      level_marks = stands.fits.level_marks;
+      map_marks = length-set r.map_blocks.items switch.0 true ∙ stands.fits.map_marks;
+      row_marks = stands.fits.row_marks;
+    };
+    version = stands.version;
+    block = refl;
+    plan = plan_said t f.count s.given r.plan r.plan (MapBlock switch.0) stands.plan (silent r.plan);
+    tables = marks_stay (length t.switches) TableBlock s.given (MapBlock switch.0) r.table_blocks.items (λ s. refl) stands.tables;
+    levels = marks_stay (length t.switches) LevelBlock s.given (MapBlock switch.0) r.level_blocks.items (λ s. refl) stands.levels;
+    maps = mark_set (length t.switches) MapBlock s.given r.map_blocks.items switch.0 (λ other. same_switch switch.0 other) (omega (arith, low, stands.fits.map_marks)) stands.maps;
+    certificate = stands.certificate ∙ sym (not_of s.given (MapBlock switch.0) Certificate refl);
+    rows = tt;
+  }
 
-pub no_switch_of : (t : Topology) (f : Form) (n : ℕ) (s : State) (named : Option ℕ) (guid : ℕ) → f.version ≡ Dump → Some guid ≡ named → None ≡ option_map switch_id (switch_of t guid) →
-    table_head t f n s named ≡ Goes (record { open_block = Table None; given = s.given })
-no_switch_of t f n s named guid dump e none =
-    ap (table_head t f n s) (sym e) ∙ ap (table_of f n s) (no_switch (switch_of t guid) none) ∙ strange_head f n s dump
+  pub after_certificate : Stands t f (record { open_block = Numbers; given = s.given ++ Certificate ∷ [] }) (record r { block = Numbers; certificate = true })
+  after_certificate = record {
+    fits = record {
+      fabric = stands.fits.fabric;
+      block = tt;
+      plan = stands.fits.plan;
+      lids = stands.fits.lids;
+      table_marks = stands.fits.table_marks;
+      level_marks = stands.fits.level_marks;
+      map_marks = stands.fits.map_marks;
+      row_marks = stands.fits.row_marks;
+    };
+    version = stands.version;
+    block = refl;
+    plan = plan_said t f.count s.given r.plan r.plan Certificate stands.plan (silent r.plan);
+    tables = marks_stay (length t.switches) TableBlock s.given Certificate r.table_blocks.items (λ s. refl) stands.tables;
+    levels = marks_stay (length t.switches) LevelBlock s.given Certificate r.level_blocks.items (λ s. refl) stands.levels;
+    maps = marks_stay (length t.switches) MapBlock s.given Certificate r.map_blocks.items (λ s. refl) stands.maps;
+    certificate = sym (now_of s.given Certificate Certificate refl);
+    rows = tt;
+  }
+
+-- a head of something new goes on
+pub new_added : (twice : PlanFault) (s : State) (now_open : Block) (new : Given) → was_given s.given new ≡ false →
+    adds twice s now_open (new ∷ []) ≡ Goes (record { open_block = now_open; given = s.given ++ new ∷ [] })
+new_added twice s now_open new h = ap (λ b. if b then Fails twice else goes s now_open (new ∷ [])) h
+
+pub old_refused : (twice : PlanFault) (s : State) (now_open : Block) (new : Given) (more : List Given) → was_given s.given new ≡ true → adds twice s now_open (new ∷ more) ≡ Fails twice
+old_refused twice s now_open new more h = ap (λ b. if b then Fails twice else goes s now_open (new ∷ more)) h
+
+-- the plan has lanes where its form says so
+pub has_lanes : (t : Topology) (count : Option ℕ) (given : List Given) (p : Plan) → p ≡ plan_given t count given → is_some p.lanes ≡ is_some count
+has_lanes t count given p e = ap (λ (q : Plan). is_some q.lanes) e ∙ stays given (plan_given t count []) ∙ start count
   where
-    no_switch : (o : Option ℕ) → None ≡ option_map switch_id o → o ≡ None
-    no_switch None h = refl
-    no_switch (Some i) h = cc
+    mapped : {A B : Type 0} (g : A → B) (o : Option A) → is_some (option_map g o) ≡ is_some o
+    mapped g None = refl
+    mapped g (Some x) = refl
 
-pub after_strange_head : (t : Topology) (f : Form) (s : State) (r : PlanReader) → Stands t f s r →
-    Stands t f (record { open_block = Table None; given = s.given }) (record r { block = Table None })
+    stays : (given : List Given) (p : Plan) → is_some ((fold plan_with p given).lanes) ≡ is_some p.lanes
+    stays [] p = refl
+    stays (new ∷ given) p = stays given (plan_with p new) ∙ mapped (λ l. lanes_with l new) p.lanes
+
+    start : (count : Option ℕ) → is_some ((plan_given t count []).lanes) ≡ is_some count
+    start None = refl
+    start (Some n) = refl
+
+-- the heads of lanes, by whether the plan has any
+pub lanes_head : (t : Topology) (f : Form) (s : State) (r : PlanReader) (has : Bool) (x y : Next) → Stands t f s r → has ≡ is_some r.plan.lanes → (if is_some f.count then x else y) ≡ (if has then x else y)
+lanes_head t f s r has x y stands e = ap (λ b. if b then x else y) (sym (e ∙ has_lanes t f.count s.given r.plan stands.plan))
+
+pub chosen_next : (has : Bool) (x y : Next) → has ≡ true → (if has then x else y) ≡ x
+chosen_next has x y e = ap (λ b. if b then x else y) e
+
+pub passed_next : (has : Bool) (x y : Next) → has ≡ false → (if has then x else y) ≡ y
+passed_next has x y e = ap (λ b. if b then x else y) e
+
+-- the switch that a head names
+pub named : (o : Option ℕ) (switch : SwitchId) → Some switch ≡ option_map switch_id o → o ≡ Some switch.0
+named None switch h = cc
+named (Some i) switch h = ap (λ (x : Option SwitchId). option_map (λ (s : SwitchId). s.0) x) (sym h)
+
+pub not_named : (o : Option ℕ) → None ≡ option_map switch_id o → o ≡ None
+not_named None h = refl
+not_named (Some i) h = cc
+
+pub source_named : (t : Topology) (switch : ℕ) (source : Bool) → source ≡ is_source t switch → a_source t (Some switch) ≡ (if source then Some switch else None)
+source_named t switch source e = ap (λ b. if b then Some switch else None) (sym e)
+
+pub says_same : (t : Topology) (f : Form) (r : PlanReader) (answer : Result (Unit {0}) PlanFault) (x y : Next) → y ≡ x → Says t f r answer x → Says t f r answer y
+says_same t f r answer x y e h = subst (λ (n : Next). Says t f r answer n) (sym e) h
+
+-- a table head of a switch that isn't in the fabric
+pub strange_head : (t : Topology) (f : Form) (n : ℕ) (s : State) (guid : Option ℕ) (g : ℕ) → Some g ≡ guid → switch_of t g ≡ None → table_head t f n s guid ≡ table_of f n s None
+strange_head t f n s guid g e h = ap (table_head t f n s) (sym e) ∙ ap (table_of f n s) h
+
+pub after_strange_head : (t : Topology) (f : Form) (s : State) (r : PlanReader) → Stands t f s r → Stands t f (record { open_block = Table None; given = s.given }) (record r { block = Table None })
 after_strange_head t f s r stands = record {
   fits = record {
+    fabric = stands.fits.fabric;
     block = tt;
-    switches = stands.fits.switches;
-    in_use = stands.fits.in_use;
+    plan = stands.fits.plan;
     lids = stands.fits.lids;
     table_marks = stands.fits.table_marks;
+    level_marks = stands.fits.level_marks;
+    map_marks = stands.fits.map_marks;
     row_marks = stands.fits.row_marks;
   };
   version = stands.version;
   block = refl;
   plan = stands.plan;
   tables = stands.tables;
+  levels = stands.levels;
+  maps = stands.maps;
+  certificate = stands.certificate;
   rows = tt;
 }

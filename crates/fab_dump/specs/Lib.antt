@@ -1,9 +1,9 @@
+pub mod BlockValues
 pub mod FieldsLeft
 pub mod Given
 pub mod Lines
 pub mod Orderly
 pub mod Reading
-pub mod Staged
 pub mod Standing
 pub mod Writing
 pub mod Laws

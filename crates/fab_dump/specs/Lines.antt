@@ -1,5 +1,5 @@
 -- What one line of a plan text says, by what it begins with and by the block that is open.
-use Rattle.std.specs.Prelude.{ℕ, ◌%◌, Bool, true, false, List, [], ◌∷◌, ◌++◌, length, take, drop, map, Option, Some, None, is_some, ◌==◌, if◌then◌else◌, codes, find, option_and_then, count_by}
+use Rattle.std.specs.Prelude.{ℕ, ◌%◌, Bool, true, false, List, [], ◌∷◌, ◌++◌, length, take, drop, Option, Some, None, is_some, ◌==◌, if◌then◌else◌, codes, find, option_and_then, count_by}
 use Rattle.std.specs.List.{starts_with, zip}
 use Rattle.std.specs.Str.{bytes_eq}
 use Rattle.fab_text.specs.Fields.{fields, dec, dec_up_to, hex, without_last, only_field, read_only, all_read, after_word}
@@ -15,7 +15,7 @@ use Rattle.fab_dump.specs.declared.form.Block.{Block}
 use Rattle.fab_dump.specs.declared.form.Block.TheVariants.{Nothing, Table, Levels, MapRow, Pairs, Numbers}
 use Rattle.fab_dump.specs.declared.line_kind.LineKind.{LineKind}
 use Rattle.fab_dump.specs.declared.line_kind.LineKind.TheVariants.{Comment, TableHead, Row, LevelsHead, MapHead, CertificateHead, PairLine, EndPlan, Other}
-use Rattle.fab_dump.specs.Given.{Given, was_given}
+use Rattle.fab_dump.specs.Given.{Given, was_given, ports_said, levels_said}
 use Rattle.fab_dump.specs.Given.Given.{TableBlock, Port, LevelBlock, Level, MapBlock, Map, PairMap, Certificate, Number}
 
 -- the form of a text: its version, and the lane count where the plan has lanes
@@ -124,10 +124,14 @@ abbrev pub lids_from : List ℕ → Option ℕ → List ℕ
 lids_from lids None = []
 lids_from lids (Some place) = if place % 64 == 0 then take 64 (drop place lids) else []
 
--- the LIDs of the row that begins with this one; none where no row does
-abbrev pub row_lids : Topology → Option ℕ → List ℕ
-row_lids t None = []
-row_lids t (Some lid) = lids_from (lids_of t) (index_of lid (lids_of t))
+abbrev pub lids_at : List ℕ → Option ℕ → List ℕ
+lids_at lids None = []
+lids_at lids (Some lid) = lids_from lids (index_of lid lids)
+
+-- the LIDs of the row that begins with this field; none where no row does
+abbrev pub row_lids : List ℕ → List (List ℕ) → List ℕ
+row_lids lids [] = []
+row_lids lids (lid ∷ values) = lids_at lids (hex 4 lid)
 
 -- each LID of a row with its value, where there are as many values as LIDs
 abbrev pub paired : {A : Type 0} → List ℕ → Option (List A) → Option (List (ℕ × A))
@@ -135,9 +139,9 @@ paired [] values = None
 paired lids None = None
 paired lids (Some values) = if length values == length lids then Some (zip lids values) else None
 
-abbrev pub long_row : {A : Type 0} → Topology → (List ℕ → Option A) → List (List ℕ) → Option (List (ℕ × A))
-long_row t read [] = None
-long_row t read (lid ∷ values) = paired (row_lids t (hex 4 lid)) (all_read read values)
+-- a row of LIDs in use with their values
+abbrev pub long_row : {A : Type 0} → List ℕ → (List ℕ → Option A) → List (List ℕ) → Option (List (ℕ × A))
+long_row lids read row = paired (row_lids lids row) (all_read read (drop 1 row))
 
 abbrev pub is_in_use : Topology → ℕ → Bool
 is_in_use t lid = is_some (index_of lid (lids_of t))
@@ -150,7 +154,7 @@ short_table_row t n s switch (Some row) =
 
 abbrev pub long_table_row : ℕ → State → ℕ → Option (List (ℕ × ℕ)) → Next
 long_table_row n s switch None = Fails (BadRow n)
-long_table_row n s switch (Some rows) = adds (TwiceRow n) s (Table (Some (switch_id switch))) (map (λ (r : ℕ × ℕ). Port switch r.0 r.1) rows)
+long_table_row n s switch (Some rows) = adds (TwiceRow n) s (Table (Some (switch_id switch))) (ports_said switch rows)
 
 -- a row of a block whose switch isn't in the fabric must have the form, and is passed over
 abbrev pub strange_row : ℕ → State → Option (ℕ × ℕ) → Next
@@ -164,7 +168,7 @@ short_level_row t n s switch (Some row) =
 
 abbrev pub long_level_row : ℕ → State → ℕ → Option (List (ℕ × Option ℕ)) → Next
 long_level_row n s switch None = Fails (BadLevelRow n)
-long_level_row n s switch (Some rows) = adds (TwiceRow n) s (Levels (switch_id switch)) (map (λ (r : ℕ × Option ℕ). Level switch r.0 r.1) rows)
+long_level_row n s switch (Some rows) = adds (TwiceRow n) s (Levels (switch_id switch)) (levels_said switch rows)
 
 -- the channel that leaves the switch of this GUID by this port
 abbrev pub channel_named : Topology → Option ℕ → Option ℕ → Option ℕ
@@ -193,10 +197,10 @@ abbrev pub row_in : Topology → Form → ℕ → State → Block → List ℕ �
 row_in t f n s (Table None) line = strange_row n s (table_row (fields line))
 row_in t f n s (Table (Some switch)) line =
     if says_one_lid f.version then short_table_row t n s switch.0 (table_row (fields line))
-    else long_table_row n s switch.0 (long_row t (dec 3 255) (fields line))
+    else long_table_row n s switch.0 (long_row (lids_of t) (dec 3 255) (fields line))
 row_in t f n s (Levels switch) line =
     if says_one_lid f.version then short_level_row t n s switch.0 (level_row (fields line))
-    else long_level_row n s switch.0 (long_row t level_field (fields line))
+    else long_level_row n s switch.0 (long_row (lids_of t) level_field (fields line))
 row_in t f n s Numbers line = adds_number n s (number_row t (fields line))
 row_in t f n s _ line = Fails (BadRow n)
 

@@ -56,9 +56,12 @@ abbrev pub count_field : Bool → Option (List ℕ) → Option (Option ℕ)
 count_field true (Some field) = if bytes_eq field (codes "none") then Some None else some_count (dec_up_to 15 field)
 count_field _ _ = None
 
+abbrev pub lanes_mark : List ℕ
+lanes_mark = codes "lanes "
+
 -- what line 2 says of lanes: none, or how many
 abbrev pub lane_count : List ℕ → Option (Option ℕ)
-lane_count line = count_field (begins line (codes "lanes ")) (only_field (fields (drop 6 line)))
+lane_count line = count_field (begins line lanes_mark) (only_field (fields (drop (length lanes_mark) line)))
 
 abbrev pub read_body : Topology → Version → List (List ℕ) → Option (Option ℕ) → Result Plan PlanFault
 read_body t version others None = Err (fault.BadRow 2)

@@ -1,16 +1,21 @@
 -- How the reader stands for what was read so far, and what its calls answer.
-use Rattle.std.specs.Prelude.{◌≡◌, ℕ, ◌<◌, Bool, false, List, length, Some, None, Result, Ok, Err, slice_index_or}
+use Rattle.std.specs.Prelude.{◌≡◌, ℕ, ◌<◌, Bool, false, List, length, Some, None, IfSome, Result, Ok, Err, slice_index_or}
 use Rattle.fab_text.specs.Readings.{Unless}
 use Rattle.fab_model.specs.Topology.{Topology, lids_of}
+use Rattle.fab_model.specs.WellFormed.{IsFabric}
+use Rattle.fab_tables.specs.declared.plan.Plan.{Plan}
 use Rattle.fab_tables.specs.Entries.{index_of}
+use Rattle.fab_tables.specs.LaneTables.{LaneTables}
 use Rattle.fab_dump.specs.declared.fault.PlanFault.{PlanFault}
 use Rattle.fab_dump.specs.declared.form.Block.{Block}
 use Rattle.fab_dump.specs.declared.form.Block.TheVariants.{Table, Levels, MapRow, Pairs}
+use Rattle.fab_dump.specs.declared.form.Step.{Step}
+use Rattle.fab_dump.specs.declared.form.Step.TheVariants as step
 use Rattle.fab_dump.specs.declared.reader.PlanReader.{PlanReader}
 use Rattle.fab_dump.specs.Given.{Given, was_given, plan_given}
-use Rattle.fab_dump.specs.Given.Given.{TableBlock, Port, Level}
+use Rattle.fab_dump.specs.Given.Given.{TableBlock, Port, LevelBlock, Level, MapBlock, Certificate}
 use Rattle.fab_dump.specs.Lines.{Form, State, Next}
-use Rattle.fab_dump.specs.Lines.Next.{Goes, Fails}
+use Rattle.fab_dump.specs.Lines.Next.{Goes, Ends, Fails}
 use Rattle.fab_dump.specs.Reading.{wants_memory}
 
 -- the open block is of a switch of the fabric, which has so many
@@ -35,13 +40,26 @@ MarkRows lids (Table (Some s)) given marks = AreRowMarks lids (λ lid. Port s.0 
 MarkRows lids (Levels s) given marks = AreRowMarks lids (λ lid. Level s.0 lid None) given marks
 MarkRows lids _ given marks = Unit {0}
 
+-- the plan has a place for each switch, LID and channel of the fabric
+pub record LanesAreOver (t : Topology) (l : LaneTables) : Type 0 where
+  pub switches : l.switches ≡ length t.switches
+  pub channels : l.channels ≡ length t.channels
+  pub in_use : l.in_use ≡ lids_of t
+
+pub record PlanIsOver (t : Topology) (p : Plan) : Type 0 where
+  pub switches : p.tables.switches ≡ length t.switches
+  pub in_use : p.tables.in_use ≡ lids_of t
+  pub lanes : IfSome p.lanes (LanesAreOver t)
+
 -- the reader is one for the fabric
 pub record ReaderFits (t : Topology) (r : PlanReader) : Type 0 where
+  pub fabric : IsFabric t
   pub block : IsWithin (length t.switches) r.block
-  pub switches : r.plan.tables.switches ≡ length t.switches
-  pub in_use : r.plan.tables.in_use ≡ lids_of t
+  pub plan : PlanIsOver t r.plan
   pub lids : r.lids ≡ lids_of t
   pub table_marks : length r.table_blocks.items ≡ length t.switches
+  pub level_marks : length r.level_blocks.items ≡ length t.switches
+  pub map_marks : length r.map_blocks.items ≡ length t.switches
   pub row_marks : length r.rows.items ≡ length (lids_of t)
 
 -- the reader stands for what was read
@@ -51,9 +69,18 @@ pub record Stands (t : Topology) (f : Form) (s : State) (r : PlanReader) : Type 
   pub block : r.block ≡ s.open_block
   pub plan : r.plan ≡ plan_given t f.count s.given
   pub tables : AreMarks (length t.switches) TableBlock s.given r.table_blocks.items
+  pub levels : AreMarks (length t.switches) LevelBlock s.given r.level_blocks.items
+  pub maps : AreMarks (length t.switches) MapBlock s.given r.map_blocks.items
+  pub certificate : r.certificate ≡ was_given s.given Certificate
   pub rows : MarkRows (lids_of t) s.open_block s.given r.rows.items
 
 -- a call that reads a line answers this
 abbrev pub Says : Topology → Form → PlanReader → Result (Unit {0}) PlanFault → Next → Type 0
 Says t f r (Ok done) next = (s : State) × (next ≡ Goes s) × Stands t f s r
 Says t f r (Err why) next = Unless (wants_memory why) (next ≡ Fails why)
+
+-- the same of a line that may end the plan
+abbrev pub SaysStep : Topology → Form → State → PlanReader → Result Step PlanFault → Next → Type 0
+SaysStep t f s r (Ok step.Goes) next = (now : State) × (next ≡ Goes now) × Stands t f now r
+SaysStep t f s r (Ok step.Ends) next = (next ≡ Ends) × Stands t f s r
+SaysStep t f s r (Err why) next = Unless (wants_memory why) (next ≡ Fails why)

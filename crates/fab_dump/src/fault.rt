@@ -1,7 +1,7 @@
 use std::alloc::AllocError;
 use thiserror::Error;
 
-/// Why a plan text is refused: the fault of its first faulty line.
+/// Why a plan text is refused: the fault of its first faulty line, or that its end is missing.
 #[derive(Debug, Drop, Error)]
 pub enum PlanFault {
     #[error("line {line}: unknown version")]
@@ -22,9 +22,6 @@ pub enum PlanFault {
     TooManyPairs { line: u32 },
     #[error("no end")]
     NoEnd,
-    /// Its first line begins as that of a plan text does.
-    #[error("form not built yet")]
-    NotBuilt,
     #[error("out of memory")]
     Memory(AllocError),
 }

@@ -1,6 +1,12 @@
 ghost use Rattle.std.specs.Prelude.{◌≡◌};
 ghost use Rattle.fab_dump.specs.Lines.{kind_of};
 
+/// What the head of a levels block begins with.
+pub(crate) const LEVELS_HEAD: &[u8] = b"Levels of switch guid ";
+
+/// What the head of a lane map begins with.
+pub(crate) const MAP_HEAD: &[u8] = b"Lane map of switch guid ";
+
 /// What a line is, by what it begins with.
 #[derive(Clone, Copy)]
 pub(crate) enum LineKind {
@@ -25,9 +31,9 @@ pub(crate) fn kind_of(line: &[u8]) -> LineKind
         LineKind::TableHead
     } else if line.starts_with(b"0x") {
         LineKind::Row
-    } else if line.starts_with(b"Levels of switch guid ") {
+    } else if line.starts_with(LEVELS_HEAD) {
         LineKind::LevelsHead
-    } else if line.starts_with(b"Lane map of switch guid ") {
+    } else if line.starts_with(MAP_HEAD) {
         LineKind::MapHead
     } else if line.starts_with(b"Certificate:") {
         LineKind::CertificateHead

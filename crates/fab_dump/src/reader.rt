@@ -1,18 +1,18 @@
-ghost use Rattle.std.specs.Prelude.{◌≡◌, ◌<◌, ℕ, length, IfOk, None, Some};
+ghost use Rattle.std.specs.Prelude.{◌≡◌, ◌<◌, ◌≤◌, ℕ, length, IfOk, IfSome, MatchResult, None, Some, Ok, Err};
 ghost use Rattle.fab_text.specs.Fields.{fields};
-ghost use Rattle.fab_model.specs.Topology.{lids_of};
 ghost use Rattle.fab_model.specs.WellFormed.{IsFabric};
-ghost use Rattle.fab_dump.specs.Lines.{Form, State, short_table_row, strange_row, row_in, table_guid, table_head, table_of, table_row, dump_line, kind_of};
-ghost use Rattle.fab_dump.specs.Reading.{dump_form, nothing_read};
+ghost use Rattle.fab_dump.specs.Given.{empty_plan};
+ghost use Rattle.fab_dump.specs.Lines.{Form, State, row_in, strange_row, table_row, dump_line, plan_line, waiting_line, line_says, kind_of};
+ghost use Rattle.fab_dump.specs.Reading.{nothing_read};
 ghost use Rattle.fab_dump.specs.Orderly.{IsOrderly};
-ghost use Rattle.fab_dump.specs.Standing.{ReaderFits, Stands, Says};
+ghost use Rattle.fab_dump.specs.Standing.{ReaderFits, Stands, Says, SaysStep};
 
 use crate::PlanFault;
-use crate::form::{Block, Version};
+use crate::form::{Block, Step, Version};
 use crate::line_kind::{LineKind, kind_of};
-use crate::rows::{table_guid, table_row};
-use fab_model::{Fabric, Lid, SwitchId};
-use fab_tables::{Columns, Plan, Tables};
+use crate::rows::table_row;
+use fab_model::{Fabric, SwitchId};
+use fab_tables::{Columns, Lanes, Plan, Tables};
 use std::alloc::{AllocError, Global};
 
 /// What was read of a text so far.
@@ -22,36 +22,139 @@ pub(crate) struct PlanReader {
     pub(crate) plan: Plan,
     pub(crate) block: Block,
     pub(crate) lids: Columns,
-    // the switches whose table block was opened
+    // the switches whose table block, levels block or lane map was opened
     pub(crate) table_blocks: Vec<bool>,
+    pub(crate) level_blocks: Vec<bool>,
+    pub(crate) map_blocks: Vec<bool>,
+    // the certificate was opened
+    pub(crate) certificate: bool,
     // the LIDs in use, by their places, of which a row of the open block was read
     pub(crate) rows: Vec<bool>,
 }
 
+/// The text goes on behind the line that was read.
+fn goes(read: Result<(), PlanFault>) -> Result<Step, PlanFault>
+    ensures { MatchResult read (λ _. result ≡ Ok Step.Goes) (λ why. result ≡ Err why) }
+{
+    match read {
+        Ok(()) => Ok(Step::Goes),
+        Err(why) => Err(why),
+    }
+}
+
+/// A plan of which nothing was said.
+fn empty_plan(alloc: Global, fabric: &Fabric, count: Option<u8>) -> Result<Plan, AllocError>
+    requires { IfSome count (λ n. (0 < n) × (n ≤ 15)) }
+    ensures { IfOk result (λ plan. plan ≡ empty_plan fabric.now count) }
+{
+    Ok(Plan {
+        tables: Tables::new(alloc, fabric)?,
+        lanes: match count {
+            Some(count) => Some(Lanes::new(alloc, fabric, count)?),
+            None => None,
+        },
+    })
+}
+
 impl PlanReader {
-    /// Reads a plain dump.
-    pub(crate) fn of_dump(alloc: Global, fabric: &Fabric) -> Result<PlanReader, AllocError>
-        ensures stands { IfOk result (Stands fabric.now dump_form nothing_read) }
-        ensures kept { IfOk result (λ _. IsFabric fabric.now) }
+    /// Nothing was read yet.
+    pub(crate) fn new(
+        alloc: Global,
+        fabric: &Fabric,
+        version: Version,
+        count: Option<u8>,
+    ) -> Result<PlanReader, AllocError>
+        requires { IfSome count (λ n. (0 < n) × (n ≤ 15)) }
+        ensures stands { IfOk result (Stands fabric.now (record { version = version; count = count }) nothing_read) }
     {
         let lids = Columns::of(alloc, fabric)?;
-        let table_blocks = vec![in alloc; false; fabric.switches() as usize]?;
-        let rows = vec![in alloc; false; lids.len()]?;
+        let switches = fabric.switches() as usize;
+        let places = lids.len();
         Ok(PlanReader {
-            version: Version::Dump,
-            plan: Plan {
-                tables: Tables::new(alloc, fabric)?,
-                lanes: None,
-            },
+            version,
+            plan: empty_plan(alloc, fabric, count)?,
             block: Block::Nothing,
             lids,
-            table_blocks,
-            rows,
+            table_blocks: vec![in alloc; false; switches]?,
+            level_blocks: vec![in alloc; false; switches]?,
+            map_blocks: vec![in alloc; false; switches]?,
+            certificate: false,
+            rows: vec![in alloc; false; places]?,
         })
     }
 
-    /// Reads a table row of one LID.
-    fn short_table_row(
+    /// The plan that was said so far.
+    pub(crate) fn into_plan(self) -> Plan
+        ensures { result ≡ self.plan }
+    {
+        self.plan
+    }
+
+    /// Reads a line that begins as a row does.
+    fn row(&mut self, fabric: &Fabric, line: u32, bytes: &[u8]) -> Result<(), PlanFault>
+        requires fits { ReaderFits fabric.now self.old }
+        ensures { (f : Form) (s : State) → Stands fabric.now f s self.old → IsOrderly fabric.now f s → Says fabric.now f self.new result
+            (row_in fabric.now f line s s.open_block bytes.now) }
+    {
+        let one_lid = self.version.says_one_lid();
+        match self.block {
+            Block::Table(Some(switch)) => {
+                if one_lid {
+                    self.short_table_row(fabric, line, switch, bytes)
+                } else {
+                    self.long_table_row(fabric, line, switch, bytes)
+                }
+            }
+            Block::Table(None) => match table_row(bytes) {
+                Some(_) => Ok(()),
+                None => Err(PlanFault::BadRow { line }),
+            },
+            Block::Levels(switch) => {
+                if one_lid {
+                    self.short_level_row(fabric, line, switch, bytes)
+                } else {
+                    self.long_level_row(fabric, line, switch, bytes)
+                }
+            }
+            Block::Numbers => self.number_row(fabric, line, bytes),
+            Block::Nothing | Block::MapRow(_) | Block::Pairs(_) => Err(PlanFault::BadRow { line }),
+        }
+    }
+
+    /// Reads a line of a plain dump.
+    fn dump_line(&mut self, fabric: &Fabric, line: u32, bytes: &[u8]) -> Result<(), PlanFault>
+        requires fits { ReaderFits fabric.now self.old }
+        ensures { (f : Form) (s : State) → Stands fabric.now f s self.old → IsOrderly fabric.now f s → Says fabric.now f self.new result
+            (dump_line fabric.now f line s bytes.now (kind_of bytes.now)) }
+    {
+        match kind_of(bytes) {
+            LineKind::TableHead => self.table_head(fabric, line, bytes),
+            LineKind::Row => self.row(fabric, line, bytes),
+            _ => Ok(()),
+        }
+    }
+
+    /// Reads a line of a plan where no lane map waits for its row.
+    fn plan_line(&mut self, fabric: &Fabric, line: u32, bytes: &[u8]) -> Result<Step, PlanFault>
+        requires fits { ReaderFits fabric.now self.old }
+        ensures { (f : Form) (s : State) → Stands fabric.now f s self.old → IsOrderly fabric.now f s → SaysStep fabric.now f s self.new result
+            (plan_line fabric.now f line s bytes.now (kind_of bytes.now)) }
+    {
+        match kind_of(bytes) {
+            LineKind::Comment => Ok(Step::Goes),
+            LineKind::TableHead => goes(self.table_head(fabric, line, bytes)),
+            LineKind::Row => goes(self.row(fabric, line, bytes)),
+            LineKind::LevelsHead => goes(self.levels_head(fabric, line, bytes)),
+            LineKind::MapHead => goes(self.map_head(fabric, line, bytes)),
+            LineKind::CertificateHead => goes(self.certificate_head(fabric, line)),
+            LineKind::PairLine => goes(self.pair_line(fabric, line, bytes)),
+            LineKind::EndPlan => Ok(Step::Ends),
+            LineKind::Other => Err(PlanFault::BadRow { line }),
+        }
+    }
+
+    /// Reads a line where a lane map waits for its row.
+    fn waiting_line(
         &mut self,
         fabric: &Fabric,
         line: u32,
@@ -59,91 +162,33 @@ impl PlanReader {
         bytes: &[u8],
     ) -> Result<(), PlanFault>
         requires fits { ReaderFits fabric.now self.old }
-        requires block { self.old.block ≡ Block.Table (Some switch) }
+        requires block { self.old.block ≡ Block.MapRow switch }
         ensures { (f : Form) (s : State) → Stands fabric.now f s self.old → IsOrderly fabric.now f s → Says fabric.now f self.new result
-            (short_table_row fabric.now line s switch.0 (table_row (fields bytes.now))) }
+            (waiting_line f line s switch.0 bytes.now (kind_of bytes.now)) }
     {
-        let _ = fabric;
-        let Some((lid, port)) = table_row(bytes) else {
-            return Err(PlanFault::BadRow { line });
-        };
-        let Some(place) = self.lids.place(Lid(lid)) else {
-            return Ok(());
-        };
-        if self.rows[place] {
-            return Err(PlanFault::TwiceRow { line });
-        }
-        self.rows[place] = true;
-        self.plan.tables.set(switch, Lid(lid), port);
-        Ok(())
-    }
-    /// Reads a line that begins as a row does.
-    fn row(&mut self, fabric: &Fabric, line: u32, bytes: &[u8]) -> Result<(), PlanFault>
-        requires { ReaderFits fabric.now self.old }
-        ensures { (f : Form) (s : State) → f.version ≡ Version.Dump → Stands fabric.now f s self.old → IsOrderly fabric.now f s → Says fabric.now f self.new result
-            (row_in fabric.now f line s s.open_block bytes.now) }
-    {
-        match self.block {
-            Block::Table(Some(switch)) => self.short_table_row(fabric, line, switch, bytes),
-            Block::Table(None) => match table_row(bytes) {
-                Some(_) => Ok(()),
-                None => Err(PlanFault::BadRow { line }),
-            },
-            _ => Err(PlanFault::BadRow { line }),
+        match kind_of(bytes) {
+            LineKind::Comment => Ok(()),
+            _ => self.map_row(fabric, line, switch, bytes),
         }
     }
 
-    /// Opens the table block of a switch.
-    fn open_table(&mut self, fabric: &Fabric, line: u32, switch: SwitchId) -> Result<(), PlanFault>
-        requires fits { ReaderFits fabric.now self.old }
-        requires switch { switch.0 < length fabric.now.switches }
-        ensures { (f : Form) (s : State) → Stands fabric.now f s self.old → IsOrderly fabric.now f s → Says fabric.now f self.new result
-            (table_of f line s (Some switch.0)) }
-    {
-        let _ = fabric;
-        let number = switch.0 as usize;
-        if self.table_blocks[number] {
-            return Err(PlanFault::TwiceBlock { line });
-        }
-        self.table_blocks[number] = true;
-        self.rows.fill(false);
-        self.block = Block::Table(Some(switch));
-        Ok(())
-    }
-
-    /// Reads the head of a table block.
-    fn table_head(&mut self, fabric: &Fabric, line: u32, bytes: &[u8]) -> Result<(), PlanFault>
-        requires { ReaderFits fabric.now self.old }
-        ensures { (f : Form) (s : State) → f.version ≡ Version.Dump → Stands fabric.now f s self.old → IsOrderly fabric.now f s → Says fabric.now f self.new result
-            (table_head fabric.now f line s (table_guid bytes.now)) }
-    {
-        let Some(guid) = table_guid(bytes) else {
-            return Err(PlanFault::BadRow { line });
-        };
-        match fabric.switch_of(guid) {
-            Some(switch) => self.open_table(fabric, line, switch),
-            None => {
-                self.block = Block::Table(None);
-                Ok(())
-            }
-        }
-    }
-
-    /// Reads a line of a plain dump.
-    pub(crate) fn dump_line(
+    /// Reads a line.
+    pub(crate) fn line(
         &mut self,
         fabric: &Fabric,
         line: u32,
         bytes: &[u8],
-    ) -> Result<(), PlanFault>
-        requires { ReaderFits fabric.now self.old }
-        ensures { (f : Form) (s : State) → f.version ≡ Version.Dump → Stands fabric.now f s self.old → IsOrderly fabric.now f s → Says fabric.now f self.new result
-            (dump_line fabric.now f line s bytes.now (kind_of bytes.now)) }
+    ) -> Result<Step, PlanFault>
+        requires fits { ReaderFits fabric.now self.old }
+        ensures { (f : Form) (s : State) → Stands fabric.now f s self.old → IsOrderly fabric.now f s → SaysStep fabric.now f s self.new result
+            (line_says fabric.now f line s bytes.now) }
     {
-        match kind_of(bytes) {
-            LineKind::TableHead => self.table_head(fabric, line, bytes),
-            LineKind::Row => self.row(fabric, line, bytes),
-            _ => Ok(()),
+        if self.version.is_dump() {
+            return goes(self.dump_line(fabric, line, bytes));
+        }
+        match self.block {
+            Block::MapRow(switch) => goes(self.waiting_line(fabric, line, switch, bytes)),
+            _ => self.plan_line(fabric, line, bytes),
         }
     }
 }

@@ -4,12 +4,15 @@ use Rattle.std.specs.Prelude.{slice_get}
 use Rattle.std.proofs.lemmas.Option.{get_or_from_slice_get, slice_get_within}
 use Rattle.fab_model.specs.declared.rows.ChannelRow.{ChannelRow}
 use Rattle.fab_model.specs.Topology.{Topology}
+use Rattle.fab_model.specs.WellFormed.{IsFabric}
 use Rattle.fab_tables.specs.declared.lanes.PairRow.{PairRow}
 use Rattle.fab_tables.specs.declared.plan.Plan.{Plan}
 use Rattle.fab_tables.specs.declared.verdict.Verdict.{Verdict}
 use Rattle.fab_tables.specs.declared.verdict.Verdict.TheVariants.{Routes, Lanes, Unreached, NoLevel, BadLane, NoNumber, NotRising}
 use Rattle.fab_tables.specs.declared.verdict.VirtualChannel.{VirtualChannel}
-use Rattle.fab_tables.specs.Certified.{IsCertified, HasRisingNumbers}
+use Rattle.fab_tables.specs.declared.end.End.{End}
+use Rattle.fab_tables.specs.declared.end.End.TheVariants.{Delivered, Loop}
+use Rattle.fab_tables.specs.Certified.{IsCertified, HasRisingNumbers, Reaches}
 use Rattle.fab_tables.specs.Entries.{Entries}
 use Rattle.fab_tables.specs.Fit.{PlanFits, LanesFit}
 use Rattle.fab_tables.specs.LaneTables.{LaneTables, AreLaneTables, lane, lane_at, lane_of_pair, is_pair, level}
@@ -18,13 +21,15 @@ use Rattle.fab_tables.specs.Verdicts.{IsVerdict, IsHop}
 use Rattle.fab_tables.specs.VirtualChannels.{hop_lane, arrival, on_channels, at_level, virtual_channels}
 use Rattle.fab_tables.proofs.CertifiedLaws.{none_some, unsome, lanes_is_certified, routes_reaches}
 use Rattle.fab_tables.proofs.OneVerdict.{one_verdict}
+use Rattle.fab_tables.proofs.FallingRoutes.{connected_below}
+use Rattle.fab_tables.proofs.LoopRepeats.{loop_repeats}
 use Rattle.fab_tables.proofs.DeadlockLaws as deadlock
 use Rattle.fab_check.specs.Free.{IsFreeOfDeadlock}
 use Rattle.fab_top.specs.declared.outcome.Outcome.{Outcome}
 use Rattle.fab_top.specs.Answer.{Answer}
 use Rattle.fab_top.specs.Answers.{IsCheckAnswer, told_answer}
-use Rattle.fab_top.specs.Headline.{ChecksTruly}
-use Rattle.fab_top.specs.Outcomes.{IsJudged, IsTrueVerdict, answer_of}
+use Rattle.fab_top.specs.Headline.{ChecksTruly, IsSafe, FollowsWell}
+use Rattle.fab_top.specs.Outcomes.{Answers, CanBePut, IsTrueVerdict, answer_of}
 use Rattle.fab_top.specs.Texts.{HasShortLanes, verdict_text, ok_routes, ok_lanes}
 
 some_head : {X : Type 0} (P : X → Type 0) (x : X) (xs : List X) → All P (x ∷ xs) → P x
@@ -136,37 +141,55 @@ routes_said t v is = ap (λ w. (told_answer w (verdict_text t w)).out) is
 same_lanes : (l m : LaneTables) (o : Option LaneTables) → o ≡ Some l → o ≡ Some m → l ≡ m
 same_lanes l m o first second = unsome l m (sym first ∙ second)
 
+no_loop : (end : End) → end ≡ Delivered → ¬ (end ≡ Loop)
+no_loop end is loop = let e : Delivered ≡ Loop = sym is ∙ loop in cc
+
 free_of_deadlock : (t : Topology) (p : Plan) → IsCertified t p → IsFreeOfDeadlock t p
 free_of_deadlock t p certified l packets is =
     let P : LaneTables → Type 0 = λ m. HasRisingNumbers t p.tables m in
     deadlock.free_of_deadlock t p.tables l packets (subst P (same_lanes certified.0 l p.lanes certified.1 is) certified.3)
 
+follows_well : (t : Topology) (p : Plan) → IsFabric t → Reaches t p.tables → FollowsWell t p.tables
+follows_well t p fabric reaches s lid connected =
+    let delivered : (route t p.tables s lid).end ≡ Delivered = reaches s lid connected in
+    (delivered, λ repeats. no_loop _ delivered ((loop_repeats t p.tables s lid fabric (connected_below t fabric.rows s lid connected)).1 repeats))
+
+is_safe : (t : Topology) (p : Plan) → IsFabric t → IsCertified t p → IsSafe t p
+is_safe t p fabric certified = record {
+  follows = follows_well t p fabric certified.2;
+  rises = λ l is.
+      let P : LaneTables → Type 0 = λ m. HasRisingNumbers t p.tables m in
+      (subst P (same_lanes certified.0 l p.lanes certified.1 is) certified.3).rises;
+  free = free_of_deadlock t p certified;
+}
+
 tells : (t : Topology) (p : Plan) (v : Verdict) → IsTrueVerdict t p v → ChecksTruly t p (told_answer v (verdict_text t v))
 tells t p v true_of = record {
   certified = (λ e. true_of.certified.0 (says_lanes t v e), λ c. lanes_said t v (true_of.certified.1 c));
   reaches = (λ e. true_of.reaches.0 (says_routes t v e), λ r. routes_said t v (true_of.reaches.1 r));
-  free = λ e. true_of.free (says_lanes t v e);
+  safe = λ e. true_of.safe (says_lanes t v e);
 }
 
 -- what the laws of verdicts say of one
-pub true_verdict : (t : Topology) (p : Plan) (v : Verdict) → IsVerdict t p.tables p.lanes v → IsTrueVerdict t p v
-true_verdict t p v is =
+pub true_verdict : (t : Topology) (p : Plan) (v : Verdict) → IsFabric t → IsVerdict t p.tables p.lanes v → IsTrueVerdict t p v
+true_verdict t p v fabric is =
     let P : Verdict → Type 0 = λ w. IsVerdict t p.tables p.lanes w in
     record {
       is = is;
       certified = (λ e. (lanes_is_certified t p).0 (subst P e is), λ c. one_verdict t p.tables p.lanes v Lanes is ((lanes_is_certified t p).1 c));
       reaches = (λ e. (routes_reaches t p).0 (subst P e is), λ r. one_verdict t p.tables p.lanes v Routes is ((routes_reaches t p).1 r));
-      free = λ e. free_of_deadlock t p ((lanes_is_certified t p).0 (subst P e is));
+      safe = λ e. is_safe t p fabric ((lanes_is_certified t p).0 (subst P e is));
     }
 
 pub judged : (t : Topology) (p : Plan) (v : Verdict) (text : List ℕ) (outcome : Outcome) → IsTrueVerdict t p v → text ≡ verdict_text t v →
-    answer_of outcome ≡ told_answer v text → IsJudged t p outcome
-judged t p v text outcome true_of is_text is =
+    answer_of outcome ≡ told_answer v text → CanBePut outcome → Answers IsCheckAnswer ChecksTruly t p outcome
+judged t p v text outcome true_of is_text is put =
     let answer : answer_of outcome ≡ told_answer v (verdict_text t v) = is ∙ ap (λ x. told_answer v x) is_text in
     let P : Answer → Type 0 = λ a. ChecksTruly t p a in
     let Q : Answer → Type 0 = λ a. a.status ≤ 1 in
     record {
-      answer = (v, true_of.is, answer);
+      is = (v, true_of.is, answer);
       headline = subst P (sym answer) (tells t p v true_of);
       status = subst Q (sym answer) (is_small t v);
+      can_be_put = put;
     }

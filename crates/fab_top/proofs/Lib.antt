@@ -1,6 +1,8 @@
 pub mod Appends
 pub mod Putting
-pub mod Checking
+pub mod Leading
 pub mod Running
 pub mod Judging
-pub mod Staging
+pub mod Taking
+pub mod Certifying
+pub mod Wording

@@ -100,9 +100,8 @@ unknown_ran words o status unknown same text is puts = answer_put words o usage 
 -- a command that has found its answer
 pub found_ran : (words : List (List ℕ)) (o : Outside) (command : Command) (outcome : Outcome) (status : ℕ) → command_of words ≡ Some command →
     IsLedTo command words o.told o.faults_before o.faults_now outcome →
-    (out_text err_text : List ℕ) → out_text ≡ outcome.out.items → err_text ≡ outcome.err.items →
-    PutsAnswer outcome.status out_text err_text o.out o.err status → Ran words o status
-found_ran words o command outcome status is led out_text err_text out_is err_is puts =
+    PutsAnswer (answer_of outcome).status (answer_of outcome).out (answer_of outcome).err o.out o.err status → Ran words o status
+found_ran words o command outcome status is led puts =
     let P : Option Command → Type 0 = λ c. MatchOption c (answer_of outcome ≡ usage) (λ one. IsAnswerTo (seen o.told words) one (answer_of outcome)) in
     let Q : Option Command → Type 0 = λ c. MatchOption c (Unit {0}) (λ one. KeepsHeadlineOf (seen o.told words) one (answer_of outcome)) in
     answer_put words o (answer_of outcome) status (record {
@@ -111,9 +110,7 @@ found_ran words o command outcome status is led out_text err_text out_is err_is 
       small = led.status.0;
       unknown = λ two. absurd (led.status.1 two);
       counts = led.counts;
-    }) (let R : List ℕ → Type 0 = λ t. PutsAnswer outcome.status t outcome.err.items o.out o.err status in
-    let S : List ℕ → Type 0 = λ t. PutsAnswer outcome.status out_text t o.out o.err status in
-    subst R out_is (subst S err_is puts))
+    }) puts
 
 -- a file that can't be read
 named_by : (words : List (List ℕ)) (command : Command) (place : ℕ) → command_of words ≡ Some command → Contains (files_of command) place → Contains (files_named words) place

@@ -1,17 +1,22 @@
 -- The answer to words and files. A command that is added adds a case to `IsAnswerTo`, and the words of its case.
-use Rattle.std.specs.Prelude.{◌≡◌, ℕ, List, [], MatchOption}
+use Rattle.std.specs.Prelude.{◌≡◌, ℕ, List, [], Option, None, Some, MatchOption}
 use Rattle.fab_model.specs.Topology.{Topology}
 use Rattle.fab_tables.specs.declared.plan.Plan.{Plan}
 use Rattle.fab_tables.specs.declared.verdict.Verdict.{Verdict}
 use Rattle.fab_tables.specs.declared.verdict.Verdict.TheVariants.{Routes, Lanes}
+use Rattle.fab_tables.specs.LaneTables.{LaneTables}
 use Rattle.fab_tables.specs.Verdicts.{IsVerdict}
+use Rattle.fab_dump.specs.Writing.{plan_text}
+use Rattle.fab_certify.specs.declared.certified.Certified.{Certified}
+use Rattle.fab_certify.specs.declared.certified.Certified.TheVariants.{Numbers, Refused, RingUsed}
+use Rattle.fab_certify.specs.Certificate.{IsCertificate}
 use Rattle.fab_top.specs.declared.command.Command.{Command}
-use Rattle.fab_top.specs.declared.command.Command.TheVariants.{Check}
+use Rattle.fab_top.specs.declared.command.Command.TheVariants.{Check, Certify, Convert}
 use Rattle.fab_top.specs.Words.{command_of}
 use Rattle.fab_top.specs.Usage.{usage_text}
 use Rattle.fab_top.specs.Answer.{Answer, done, no}
-use Rattle.fab_top.specs.Texts.{verdict_text}
-use Rattle.fab_top.specs.Seen.{Seen, WithFabric, WithPlan}
+use Rattle.fab_top.specs.Texts.{verdict_text, ring_text}
+use Rattle.fab_top.specs.Seen.{Seen, WithBoth}
 
 -- ---- check
 
@@ -27,10 +32,32 @@ verdict_answer t verdict = told_answer verdict (verdict_text t verdict)
 abbrev pub IsCheckAnswer : Topology → Plan → Answer → Type 0
 IsCheckAnswer t p answer = (verdict : Verdict) × IsVerdict t p.tables p.lanes verdict × (answer ≡ verdict_answer t verdict)
 
+-- ---- certify
+
+-- a plan without lanes is taken with one
+abbrev pub lane_count : Option LaneTables → ℕ
+lane_count None = 1
+lane_count (Some l) = l.count
+
+abbrev pub certified_answer : Topology → Plan → Certified → Answer
+certified_answer t p (Numbers new) = done (plan_text t new)
+certified_answer t p (Refused fault) = no (verdict_text t fault)
+certified_answer t p (RingUsed ring) = no (ring_text t (lane_count p.lanes) ring)
+
+abbrev pub IsCertifyAnswer : Topology → Plan → Answer → Type 0
+IsCertifyAnswer t p answer = (certified : Certified) × IsCertificate t p certified × (answer ≡ certified_answer t p certified)
+
+-- ---- convert
+
+abbrev pub IsPlanText : Topology → Plan → Answer → Type 0
+IsPlanText t p answer = answer ≡ done (plan_text t p)
+
 -- ---- by command
 
 abbrev pub IsAnswerTo : Seen → Command → Answer → Type 0
-IsAnswerTo w (Check fabric plan) answer = WithFabric w fabric (λ t. WithPlan w t plan (λ p. IsCheckAnswer t p)) answer
+IsAnswerTo w (Check fabric plan) answer = WithBoth w fabric plan IsCheckAnswer answer
+IsAnswerTo w (Certify fabric plan) answer = WithBoth w fabric plan IsCertifyAnswer answer
+IsAnswerTo w (Convert fabric plan) answer = WithBoth w fabric plan IsPlanText answer
 
 abbrev pub usage : Answer
 usage = record { status = 2; out = []; err = usage_text }

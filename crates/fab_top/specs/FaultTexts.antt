@@ -59,5 +59,4 @@ plan_fault_text name (plan.BadLaneRow line) = on_line name line (codes "bad lane
 plan_fault_text name (plan.BadNumber line) = on_line name line (codes "bad number row")
 plan_fault_text name (plan.TooManyPairs line) = on_line name line (codes "too many pair maps")
 plan_fault_text name plan.NoEnd = in_file name (codes "no end")
-plan_fault_text name plan.NotBuilt = in_file name (codes "form not built yet")
 plan_fault_text name (plan.Memory refused) = []

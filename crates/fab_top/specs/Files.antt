@@ -5,10 +5,7 @@ use Rattle.fab_model.specs.Topology.{Topology}
 use Rattle.fab_model.specs.Built.{built}
 use Rattle.fab_netdiscover.specs.Reading.{records_in}
 use Rattle.fab_tables.specs.declared.plan.Plan.{Plan}
-use Rattle.fab_dump.specs.declared.fault.PlanFault.{PlanFault}
-use Rattle.fab_dump.specs.declared.fault.PlanFault.TheVariants.{NotBuilt}
 use Rattle.fab_dump.specs.Reading.{plan_of}
-use Rattle.fab_dump.specs.Staged.{is_plan_text}
 use Rattle.fab_top.specs.FaultTexts.{too_long_text, read_fault_text, fabric_fault_text, plan_fault_text}
 
 -- the greatest lengths in bytes
@@ -32,9 +29,5 @@ abbrev pub fabric_in : List ℕ → List ℕ → Result Topology (List ℕ)
 fabric_in name bytes = within fabric_limit name bytes (
     by_text (read_fault_text name) (records_in bytes) >>= λ records. by_text (fabric_fault_text name) (built records))
 
--- of the texts of plans only plain dumps are read yet
-unfoldable pub plan_read : Topology → List ℕ → Result Plan PlanFault
-plan_read t bytes = if is_plan_text bytes then Err NotBuilt else plan_of t bytes
-
 abbrev pub plan_in : Topology → List ℕ → List ℕ → Result Plan (List ℕ)
-plan_in t name bytes = within plan_limit name bytes (by_text (plan_fault_text name) (plan_read t bytes))
+plan_in t name bytes = within plan_limit name bytes (by_text (plan_fault_text name) (plan_of t bytes))

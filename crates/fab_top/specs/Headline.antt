@@ -1,26 +1,77 @@
 -- What the program promises of its answers.
-use Rattle.std.specs.Prelude.{◌≡◌, ◌↔◌, None, MatchOption}
+use Rattle.std.specs.Prelude.{◌≡◌, ◌↔◌, ℕ, List, None, Some, Ok, MatchOption}
+use Rattle.fab_graph.specs.Walks.{IsAcyclic, Rises}
 use Rattle.fab_model.specs.Topology.{Topology}
+use Rattle.fab_model.specs.Connected.{IsConnectedTo}
 use Rattle.fab_tables.specs.declared.plan.Plan.{Plan}
-use Rattle.fab_tables.specs.Certified.{Reaches, IsCertified}
+use Rattle.fab_tables.specs.declared.end.End.TheVariants.{Delivered}
+use Rattle.fab_tables.specs.Certified.{Reaches, IsCertified, number_of}
+use Rattle.fab_tables.specs.Dependencies.{AreReadLanes, Depends}
+use Rattle.fab_tables.specs.Entries.{Entries}
+use Rattle.fab_tables.specs.LaneTables.{LaneTables}
+use Rattle.fab_tables.specs.Route.{route, visited, HasRepeat}
+use Rattle.fab_dump.specs.Reading.{plan_of}
 use Rattle.fab_check.specs.Free.{IsFreeOfDeadlock}
+use Rattle.fab_certify.specs.Numbered.{IsSound}
 use Rattle.fab_top.specs.declared.command.Command.{Command}
-use Rattle.fab_top.specs.declared.command.Command.TheVariants.{Check}
+use Rattle.fab_top.specs.declared.command.Command.TheVariants.{Check, Certify, Convert}
 use Rattle.fab_top.specs.Words.{command_of}
 use Rattle.fab_top.specs.Answer.{Answer}
 use Rattle.fab_top.specs.Texts.{ok_routes, ok_lanes}
-use Rattle.fab_top.specs.Seen.{Seen, WithFabric, WithPlan}
+use Rattle.fab_top.specs.Seen.{Seen, WithBoth}
 
--- The check answers ok with lanes exactly of certified plans, and ok without lanes exactly of plans without
--- lanes whose routes all reach. Where it is ok with lanes, no packets of the plan wait for each other.
+-- following the tables from every switch reaches every LID connected to it, and meets no switch twice
+abbrev pub FollowsWell : Topology → Entries → Type 0
+FollowsWell t e = (s lid : ℕ) → IsConnectedTo t s lid →
+    ((route t e s lid).end ≡ Delivered) × (¬ HasRepeat (visited t s ((route t e s lid).channels)))
+
+-- along every two virtual channels that a source's route uses in succession the numbers rise
+abbrev pub NumbersRise : Topology → Plan → Type 0
+NumbersRise t p = (l : LaneTables) → p.lanes ≡ Some l → Rises (number_of l) (Depends t p.tables l)
+
+-- what an operator may trust of a plan: it follows well, its numbers rise, and no packets of it wait for each other
+pub record IsSafe (t : Topology) (p : Plan) : Type 0 where
+  pub follows : FollowsWell t p.tables
+  pub rises : NumbersRise t p
+  pub free : IsFreeOfDeadlock t p
+
+-- The check answers ok with lanes exactly of certified plans, which are safe, and ok without lanes exactly of plans
+-- without lanes whose routes all reach.
 pub record ChecksTruly (t : Topology) (p : Plan) (answer : Answer) : Type 0 where
   pub certified : (answer.out ≡ ok_lanes) ↔ IsCertified t p
+  pub safe : answer.out ≡ ok_lanes → IsSafe t p
   pub reaches : (answer.out ≡ ok_routes) ↔ ((p.lanes ≡ None) × Reaches t p.tables)
-  pub free : answer.out ≡ ok_lanes → IsFreeOfDeadlock t p
+
+abbrev pub Done : Answer → Type 0
+Done answer = answer.status ≡ 0
+
+-- With the lanes with which the plan is read the routes reach, each source has a level for each LID connected to it, every
+-- lane that is used is below the count, and no ring of virtual channels waits for itself.
+abbrev pub CanBeCertified : Topology → Plan → Type 0
+CanBeCertified t p = (l : LaneTables) × AreReadLanes t p.lanes l × IsSound t p.tables l × IsAcyclic (Depends t p.tables l)
+
+-- the text, read again, is this plan
+abbrev pub IsReadAgain : Topology → Plan → List ℕ → Type 0
+IsReadAgain t p text = plan_of t text ≡ Ok p
+
+-- the text, read again, is a certified plan: one that the check answers ok with lanes
+abbrev pub IsCertifiedAgain : Topology → List ℕ → Type 0
+IsCertifiedAgain t text = (p : Plan) × IsReadAgain t p text × IsCertified t p
+
+-- a plan is written out exactly where it can be certified, and then it is certified
+pub record CertifiesTruly (t : Topology) (p : Plan) (answer : Answer) : Type 0 where
+  pub done : Done answer ↔ CanBeCertified t p
+  pub certified : Done answer → IsCertifiedAgain t answer.out
+
+-- a plan that is converted stays the same plan
+abbrev pub ConvertsTruly : Topology → Plan → Answer → Type 0
+ConvertsTruly t p answer = Done answer × IsReadAgain t p answer.out
 
 -- by command
 abbrev pub KeepsHeadlineOf : Seen → Command → Answer → Type 0
-KeepsHeadlineOf w (Check fabric plan) answer = WithFabric w fabric (λ t. WithPlan w t plan (λ p. ChecksTruly t p)) answer
+KeepsHeadlineOf w (Check fabric plan) answer = WithBoth w fabric plan ChecksTruly answer
+KeepsHeadlineOf w (Certify fabric plan) answer = WithBoth w fabric plan CertifiesTruly answer
+KeepsHeadlineOf w (Convert fabric plan) answer = WithBoth w fabric plan ConvertsTruly answer
 
 abbrev pub KeepsHeadline : Seen → Answer → Type 0
 KeepsHeadline w answer = MatchOption (command_of w.words) (Unit {0}) (λ command. KeepsHeadlineOf w command answer)

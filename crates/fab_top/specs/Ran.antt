@@ -5,7 +5,7 @@ use Rattle.std.specs.Prelude.{◌≡◌, ℕ, ◌<◌, ◌≤◌, ◌⊎◌, Lis
 use Rattle.std.specs.Option.{option_map_or}
 use Rattle.fab_io.specs.Faults.{Rose}
 use Rattle.fab_top.specs.declared.command.Command.{Command}
-use Rattle.fab_top.specs.declared.command.Command.TheVariants.{Check}
+use Rattle.fab_top.specs.declared.command.Command.TheVariants.{Check, Certify, Convert}
 use Rattle.fab_top.specs.Words.{command_of}
 use Rattle.fab_top.specs.Answer.{Answer, unread}
 use Rattle.fab_top.specs.Seen.{seen, seen_failing, word_at}
@@ -26,6 +26,8 @@ pub record Outside : Type 0 where
 -- the places of the words that name files, in their order
 abbrev pub files_of : Command → List ℕ
 files_of (Check fabric plan) = fabric ∷ plan ∷ []
+files_of (Certify fabric plan) = fabric ∷ plan ∷ []
+files_of (Convert fabric plan) = fabric ∷ plan ∷ []
 
 abbrev pub files_named : List (List ℕ) → List ℕ
 files_named words = option_map_or files_of (command_of words) []

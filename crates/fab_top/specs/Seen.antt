@@ -48,3 +48,7 @@ WithFabric w place rest answer = AfterFile (word_at w.words place) (w.content pl
 
 abbrev pub WithPlan : Seen → Topology → ℕ → (Plan → Answer → Type 0) → Answer → Type 0
 WithPlan w t place rest answer = AfterFile (word_at w.words place) (w.content place) (plan_in t) rest answer
+
+-- after a fabric and a plan of it are read
+abbrev pub WithBoth : Seen → ℕ → ℕ → (Topology → Plan → Answer → Type 0) → Answer → Type 0
+WithBoth w fabric plan rest answer = WithFabric w fabric (λ t. WithPlan w t plan (rest t)) answer

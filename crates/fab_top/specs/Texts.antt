@@ -1,6 +1,6 @@
 -- The texts of answers. Each ends with a line feed. GUIDs have sixteen hexadecimal digits, LIDs four, ports
 -- three decimal digits, lanes two; other numbers are decimal.
-use Rattle.std.specs.Prelude.{ℕ, ◌<◌, List, [], ◌++◌, Option, None, Some, slice_get, codes, decimal}
+use Rattle.std.specs.Prelude.{ℕ, ◌<◌, ◌/◌, ◌%◌, List, [], ◌++◌, length, flat_map, Option, None, Some, slice_get, codes, decimal}
 use Rattle.fab_model.specs.declared.rows.ChannelRow.{ChannelRow}
 use Rattle.fab_model.specs.Topology.{Topology, guid_of}
 use Rattle.fab_tables.specs.declared.end.End.{End}
@@ -78,3 +78,15 @@ abbrev pub HasShortLanes : Verdict → Type 0
 HasShortLanes (NoNumber lid source at) = at.lane < 100
 HasShortLanes (NotRising lid source first second first_number second_number) = (first.lane < 100) × (second.lane < 100)
 HasShortLanes _ = Unit {0}
+
+-- ---- rings
+
+-- the lines of a ring of virtual channels, whose numbers are channel times lane count plus lane
+abbrev pub ring_line : Topology → ℕ → ℕ → List ℕ
+ring_line t count node = on_lane_text t (node / count) (node % count) ++ codes "\n"
+
+abbrev pub ring_front : List ℕ → List ℕ
+ring_front ring = codes "no: ring of " ++ decimal (length ring) ++ codes "\n"
+
+abbrev pub ring_text : Topology → ℕ → List ℕ → List ℕ
+ring_text t count ring = ring_front ring ++ flat_map (ring_line t count) ring

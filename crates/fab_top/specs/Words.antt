@@ -1,5 +1,7 @@
 -- The grammar of the words, as far as it is built:
 --     check FABRIC PLAN
+--     certify FABRIC PLAN
+--     convert FABRIC PLAN
 -- A file's word is not empty and does not begin with two dashes. A file is named by the place of its word.
 use Rattle.std.specs.Prelude.{ℕ, Bool, false, ◌&&◌, not, List, [], ◌∷◌, length, map, Option, None, option_map, option_and_then, find, ◌==◌, codes, String}
 use Rattle.std.specs.Bool.{then_some}
@@ -30,7 +32,7 @@ abbrev pub two_files : (ℕ → ℕ → Command) → List (List ℕ) → Option 
 two_files make words = then_some (are_two_files words) (make 1 2)
 
 abbrev pub commands : List (List ℕ × (List (List ℕ) → Option Command))
-commands = (codes "check", two_files command.Check) ∷ []
+commands = (codes "check", two_files command.Check) ∷ (codes "certify", two_files command.Certify) ∷ (codes "convert", two_files command.Convert) ∷ []
 
 -- the command that the words spell, if they are in the grammar
 abbrev pub command_of : List (List ℕ) → Option Command

@@ -3,4 +3,8 @@
 pub enum Command {
     /// The verdict on a plan of a fabric.
     Check { fabric: usize, plan: usize },
+    /// A plan of a fabric with the numbers that certify it, or the first fault or the ring that forbids them.
+    Certify { fabric: usize, plan: usize },
+    /// A plan of a fabric, written as plans are written now.
+    Convert { fabric: usize, plan: usize },
 }

@@ -8,6 +8,8 @@ mod files;
 mod outcome;
 mod outputs;
 #[cfg(test)]
+mod plan_tests;
+#[cfg(test)]
 mod tests;
 mod texts;
 mod top_call;

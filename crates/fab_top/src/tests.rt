@@ -28,20 +28,19 @@ const TWICE: &[u8] = b"Unicast lids [0x0001-0x0003] of switch Lid 1 guid 0x00000
 
 /// The words, parted by spaces, run over a shelf and fresh sinks.
 #[derive(Drop)]
-struct Run {
+pub(crate) struct Run {
     shelf: MemoryShelf,
     out: MemorySink,
     err: MemorySink,
 }
 
 impl Run {
-    fn new(alloc: Global) -> Result<Run, Fail> {
+    pub(crate) fn new(alloc: Global) -> Result<Run, Fail> {
         let mut shelf = MemoryShelf::new(alloc);
         shelf.add("ONE", ONE)?;
         shelf.add("DUMP", DUMP)?;
         shelf.add("TWICE", TWICE)?;
         shelf.add("EMPTY", b"")?;
-        shelf.add("PLAN", b"fabroute plan 1\nlanes none\nend plan\n")?;
         Ok(Run {
             shelf,
             out: MemorySink::new(alloc),
@@ -49,7 +48,18 @@ impl Run {
         })
     }
 
-    fn status(&mut self, alloc: Global, words: &[&str]) -> Result<u8, Fail> {
+    pub(crate) fn add(&mut self, name: &str, bytes: &[u8]) -> Result<(), Fail> {
+        self.shelf.add(name, bytes)?;
+        Ok(())
+    }
+
+    /// The put of this number to the output fails after so many bytes.
+    pub(crate) fn fail_out(&mut self, number: u32, bytes: usize) -> Result<(), Fail> {
+        self.out.fail(number, bytes)?;
+        Ok(())
+    }
+
+    pub(crate) fn status(&mut self, alloc: Global, words: &[&str]) -> Result<u8, Fail> {
         let mut all = Vec::new(alloc);
         for word in words {
             all.push(String::from_str(alloc, word)?)?;
@@ -57,7 +67,7 @@ impl Run {
         Ok(run(alloc, &all, &mut self.shelf, &mut self.out, &mut self.err))
     }
 
-    fn tells(&self, rt: &impl Abort, out: &[u8], err: &[u8]) {
+    pub(crate) fn tells(&self, rt: &impl Abort, out: &[u8], err: &[u8]) {
         assert_eq!(rt; self.out.bytes(), out);
         assert_eq!(rt; self.err.bytes(), err);
     }
@@ -91,9 +101,6 @@ fn files_that_are_refused(rt: HostRuntime) -> Result<(), Fail> {
     let mut second = Run::new(rt.alloc())?;
     assert_eq!(rt; second.status(rt.alloc(), &["check", "ONE", "TWICE"])?, 3);
     second.tells(&rt, b"", b"TWICE:5: row given twice\n");
-    let mut third = Run::new(rt.alloc())?;
-    assert_eq!(rt; third.status(rt.alloc(), &["check", "ONE", "PLAN"])?, 3);
-    third.tells(&rt, b"", b"PLAN: form not built yet\n");
     Ok(())
 }
 

@@ -6,10 +6,10 @@ ghost use Rattle.fab_top.specs.Ran.{Ran};
 ghost use Rattle.fab_top.specs.Usage.{usage_text};
 
 use crate::command::Command;
-use crate::commands::check;
+use crate::commands::{certify, check, convert};
 use crate::fault_texts::unread_text;
 use crate::outcome::{Outcome, Stop};
-use crate::outputs::put_answer;
+use crate::outputs::{put_answer, put_outcome};
 use crate::words::{WordsFault, read_words};
 use fab_io::{PutFault, Shelf, Sink};
 use std::alloc::Global;
@@ -52,6 +52,8 @@ fn obey<F: Shelf>(
 {
     match command {
         Command::Check { fabric, plan } => check(alloc, words, shelf, fabric, plan),
+        Command::Certify { fabric, plan } => certify(alloc, words, shelf, fabric, plan),
+        Command::Convert { fabric, plan } => convert(alloc, words, shelf, fabric, plan),
     }
 }
 
@@ -93,7 +95,7 @@ pub fn run<F: Shelf, O: Sink, E: Sink>(
         Err(WordsFault::Memory(_)) => return 6,
     };
     match obey(alloc, words, shelf, command) {
-        Ok(outcome) => put_answer(out, err, outcome.status, &outcome.out, &outcome.err),
+        Ok(outcome) => put_outcome(alloc, out, err, outcome),
         Err(Stop::Unread(place)) => put_unread(alloc, words[place].as_str(), err),
         Err(Stop::Memory(_)) => 6,
     }

@@ -41,9 +41,12 @@ pub fn read_words(alloc: Global, words: &[String]) -> Result<Command, WordsFault
 {
     let _ = alloc;
     match words {
-        [name, others @ ..] if name.as_str() == "check" && are_two_files(others) => {
-            Ok(Command::Check { fabric: 1, plan: 2 })
-        }
+        [name, others @ ..] if are_two_files(others) => match name.as_str() {
+            "check" => Ok(Command::Check { fabric: 1, plan: 2 }),
+            "certify" => Ok(Command::Certify { fabric: 1, plan: 2 }),
+            "convert" => Ok(Command::Convert { fabric: 1, plan: 2 }),
+            _ => Err(WordsFault::Words),
+        },
         _ => Err(WordsFault::Words),
     }
 }

@@ -1,17 +1,15 @@
-use Rattle.std.proofs.Common.{◌≡◌, sym, ◌∙◌, ap, subst, Some}
+use Rattle.std.proofs.Common.{◌≡◌, ap, subst}
 use Rattle.std.specs.Prelude.{IfOk, MatchOption}
 use Rattle.std.proofs.lemmas.Result.{IfOk-weaker}
 use Rattle.fab_tables.specs.declared.plan.Plan.{Plan}
-use Rattle.fab_tables.specs.LaneTables.{LaneTables}
-use Rattle.fab_tables.specs.Entries.{Entries}
-use Rattle.fab_tables.specs.Fit.{IsTidy, PlanFits}
+use Rattle.fab_tables.specs.Fit.{IsTidy}
 use Rattle.fab_tables.specs.Certified.{IsCertified}
 use Rattle.fab_certify.specs.Numbered.{IsSound}
 use Rattle.fab_tables.specs.Dependencies.{AreReadLanes}
 use Rattle.fab_tables.specs.Verdicts.{IsRefusal}
 use Rattle.fab_certify.specs.declared.certified.Certified.TheVariants.{Refused, Numbers}
 use Rattle.fab_certify.specs.Certificate.{IsCertificate, HasNoPair, IsPlainCertificate}
-use Rattle.fab_certify.proofs.Certificates.{certificate_by, certificate_certified, certificate_fits, certificate_tidy}
+use Rattle.fab_certify.proofs.Certificates.{certificate_by, certificate_certified, certificate_tidy}
 use Rattle.fab_certify.proofs.Plainly.{plain_certificate}
 use Rattle.fab_certify.proofs.certified.certify.Goals as goal
 

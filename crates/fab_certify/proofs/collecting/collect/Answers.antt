@@ -1,4 +1,4 @@
-use Rattle.std.proofs.Common.{◌≡◌, ◌<◌, ◌*◌, Some, slice_get, option_map, inl, inr, refl, sym, ◌∙◌, ap, subst, arith, length, replicate, false, Bool, ℕ}
+use Rattle.std.proofs.Common.{◌≡◌, ◌*◌, slice_get, option_map, inl, inr, refl, sym, ◌∙◌, ap, arith, length, replicate, false, Bool}
 use Rattle.std.proofs.lemmas.Bool.{cases_lt}
 use Rattle.fab_model.specs.Topology.{lids_of, lid_id}
 use Rattle.fab_tables.proofs.Ascending.{lid_in_use}

@@ -1,4 +1,4 @@
-use Rattle.std.proofs.Common.{◌≡◌, suc, ◌<◌, ◌*◌, ◌∙◌, length, sym, ap, subst, arith, Some, None, slice_get}
+use Rattle.std.proofs.Common.{◌≡◌, suc, ◌<◌, ◌∙◌, length, sym, ap, subst, Some, None, slice_get}
 use Rattle.fab_tables.specs.declared.verdict.VirtualChannel.{VirtualChannel}
 use Rattle.fab_tables.specs.Ahead.{Ahead}
 use Rattle.fab_tables.specs.Route.{route}

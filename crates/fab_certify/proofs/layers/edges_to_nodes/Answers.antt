@@ -1,4 +1,4 @@
-use Rattle.std.proofs.Common.{◌≡◌, ◌<◌, ℕ, length, replicate, take, slice_index_or, arith}
+use Rattle.std.proofs.Common.{◌<◌, ℕ, length, replicate, take, slice_index_or, arith}
 use Rattle.std.specs.Prelude.{◌==◌, ◌&&◌}
 use Rattle.std.proofs.lemmas.List.{get_or_read, length-take-le}
 use Rattle.std.proofs.lemmas.List.Sums.{count_by-le-length}

@@ -1,4 +1,3 @@
-use Rattle.std.proofs.Common.{◌≡◌, ◌∷◌, ◌++◌, [], ap, arith}
 use Rattle.fab_certify.proofs.FreeNodes.{free_more, free_same, all_free}
 use Rattle.fab_certify.proofs.layers.free_nodes.Goals as goal
 use Rattle.fab_certify.proofs.layers.free_nodes.Goals.{then-left-node-eq0+in_ok-push, else-left-node-eq0}

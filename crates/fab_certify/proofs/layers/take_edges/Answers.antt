@@ -1,4 +1,4 @@
-use Rattle.std.proofs.Common.{◌≡◌, ◌<◌, length, slice_index_or, refl, subst, sym, arith, get_or-set_same}
+use Rattle.std.proofs.Common.{◌<◌, length, slice_index_or}
 use Rattle.fab_certify.proofs.TakingEdges.{one_left, frees, keeps_waiting}
 use Rattle.fab_certify.proofs.layers.take_edges.Goals as goal
 use Rattle.fab_certify.proofs.layers.take_edges.Goals.{then-left-node-eq0+in_ok-push, else-left-node-eq0}

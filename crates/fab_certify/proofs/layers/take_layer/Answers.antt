@@ -1,6 +1,6 @@
-use Rattle.std.proofs.Common.{◌≡◌, ◌∷◌, ◌+◌, ◌∙◌, drop, slice_index_or, subst, ap, arith}
+use Rattle.std.proofs.Common.{◌∷◌, ◌+◌, drop, slice_index_or, subst, arith}
 use Rattle.std.proofs.lemmas.List.{drop_more}
-use Rattle.fab_certify.specs.Layers.{IsTaking, left_of, times}
+use Rattle.fab_certify.specs.Layers.{IsTaking}
 use Rattle.fab_certify.proofs.EdgesOf.{successors_low}
 use Rattle.fab_certify.proofs.TakingNodes.{first_low, enough_left, fewer, takes_first}
 use Rattle.fab_certify.proofs.layers.take_layer.Goals as goal

@@ -1,4 +1,4 @@
-use Rattle.std.proofs.Common.{◌≡◌, ◌+◌, ◌<◌, ◌≤◌, [], length, All}
+use Rattle.std.proofs.Common.{◌+◌, ◌<◌, ◌≤◌, [], length, All}
 use Rattle.fab_certify.specs.Layers.{times}
 use Rattle.fab_certify.specs.Nearness.{IsReaching}
 use Rattle.fab_certify.proofs.nearness.nearness.Given as goal

@@ -1,4 +1,4 @@
-use Rattle.std.proofs.Common.{◌≡◌, [], ◌∷◌, ◌+◌, ◌∙◌, drop, slice_index_or, subst, arith}
+use Rattle.std.proofs.Common.{◌+◌, ◌∙◌, drop, slice_index_or, subst}
 use Rattle.std.proofs.lemmas.List.{drop_more, drop_all}
 use Rattle.fab_certify.specs.Neighbours.{predecessors_of}
 use Rattle.fab_certify.specs.Nearness.{IsReaching, ReachesTails}

@@ -1,5 +1,4 @@
-use Rattle.std.proofs.Common.{◌≡◌, ◌<◌, length, slice_index_or, sym, arith}
-use Rattle.std.proofs.lemmas.List.{length-set}
+use Rattle.std.proofs.Common.{◌<◌, length, slice_index_or}
 use Rattle.fab_certify.proofs.ReachingTails.{reaches_none, reaches_new, reaches_old}
 use Rattle.fab_certify.proofs.nearness.reach_tails.Goals as goal
 use Rattle.fab_certify.proofs.nearness.reach_tails.Goals.{then-near-node-eq0+in_ok-push, else-near-node-eq0}

@@ -1,8 +1,6 @@
-use Rattle.std.proofs.Common.{◌≡◌, ◌∙◌, ℕ, length, subst, sym, ap}
+use Rattle.std.proofs.Common.{subst, sym}
 use Rattle.std.proofs.lemmas.Result.{IfOk-weaker}
 use Rattle.fab_graph.specs.Walks.{IsEdge, IsOnClosedWalk}
-use Rattle.fab_certify.specs.EdgeList.{EdgeList}
-use Rattle.fab_certify.specs.Layers.{level_of, AreLayers}
 use Rattle.fab_certify.proofs.ClosedWalks.{untaken_on_closed}
 use Rattle.fab_certify.proofs.RingSteps.{turned_closed}
 use Rattle.fab_certify.proofs.rings.backward_levels.Goals as goal

@@ -1,8 +1,5 @@
-use Rattle.std.proofs.Common.{◌≡◌, ◌<◌, ◌∙◌, ℕ, length, subst, sym, ap, inl, inr, arith}
-use Rattle.std.proofs.lemmas.Bool.{cases_eq}
+use Rattle.std.proofs.Common.{◌<◌, ◌∙◌, length, arith}
 use Rattle.std.proofs.lemmas.List.{get_or_read}
-use Rattle.fab_graph.specs.Walks.{IsEdge, IsOnClosedWalk}
-use Rattle.fab_certify.specs.Layers.{level_of}
 use Rattle.fab_certify.specs.Nearness.{near_of}
 use Rattle.fab_certify.proofs.ClosedWalks.{untaken_on_closed}
 use Rattle.fab_certify.proofs.RingSteps.{on_closed, off_closed, ring_is_first, closed_low, one_more_off}

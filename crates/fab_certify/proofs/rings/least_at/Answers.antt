@@ -1,6 +1,3 @@
-use Rattle.std.proofs.Common.{◌≡◌, subst, ap, MatchOption, ℕ, Option}
-use Rattle.fab_graph.specs.Least.{IsLeast}
-use Rattle.fab_certify.specs.Nearness.{StandsAtDistance}
 use Rattle.fab_certify.proofs.LeastAt.{passed, takes_lesser, takes_first}
 use Rattle.fab_certify.proofs.rings.least_at.Goals as goal
 use Rattle.fab_certify.proofs.rings.least_at.Goals.{then-near-node+in-Some, then-near-node+in-None, else-near-node}

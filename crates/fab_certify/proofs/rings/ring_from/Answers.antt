@@ -1,9 +1,9 @@
-use Rattle.std.proofs.Common.{◌≡◌, ◌<◌, ◌-◌, ℕ, suc, [], ◌∷◌, length, subst, sym, ap, arith, MatchOption}
+use Rattle.std.proofs.Common.{◌≡◌, ◌-◌, ℕ, suc, arith}
 use Rattle.std.proofs.lemmas.Bool.{some_since}
 use Rattle.std.proofs.lemmas.Option.{MatchOption-at_some}
 use Rattle.fab_graph.specs.Least.{IsLeast}
 use Rattle.fab_certify.specs.Neighbours.{successors_of}
-use Rattle.fab_certify.specs.Nearness.{near_of, IsRingSoFar, StandsAtDistance}
+use Rattle.fab_certify.specs.Nearness.{near_of, StandsAtDistance}
 use Rattle.fab_certify.proofs.EdgesOf.{successors_low}
 use Rattle.fab_certify.proofs.RingSteps.{near_low, ring_begins, some_nearer, ring_goes_on, ring_ends}
 use Rattle.fab_certify.proofs.rings.ring_from.Goals as goal

@@ -1,5 +1,5 @@
-use Rattle.std.proofs.Common.{◌≡◌, ◌<◌, ℕ, length, subst, sym, ap, arith, Some}
-use Rattle.fab_certify.specs.Collected.{Collected, AddsHop}
+use Rattle.std.proofs.Common.{◌<◌, length, ap, arith}
+use Rattle.fab_certify.specs.Collected.{Collected}
 use Rattle.fab_certify.proofs.HopsAdded.{adds_next, still_collected}
 use Rattle.fab_certify.proofs.dependencies.Dependencies.add.Goals as goal
 

@@ -1,4 +1,4 @@
-use Rattle.std.proofs.Common.{◌≡◌, ◌<◌, ◌++◌, [], ◌∷◌, ◌∙◌, List, length, map, slice_index_or, slice_set, ap, subst, sym, arith, ℕ, Vec, Global}
+use Rattle.std.proofs.Common.{◌≡◌, ◌<◌, ◌++◌, [], ◌∷◌, ◌∙◌, List, length, map, slice_index_or, slice_set, ap, sym, arith, ℕ, Vec, Global}
 use Rattle.std.proofs.lemmas.List.{map-set, get_or-map, length-map}
 use Rattle.fab_certify.proofs.neighbours.Lists.add.Goals as goal
 

@@ -1,6 +1,8 @@
 use Rattle.std.proofs.Common.{◌∙◌, sym, ap, arith, false, ◌<◌, length, replicate}
 use Rattle.std.proofs.lemmas.List.{get_or_read}
-use Rattle.fab_dump.proofs.AfterHeads.{after_table_head, table_new}
+use Rattle.fab_dump.specs.declared.fault.PlanFault.TheVariants.{TwiceBlock}
+use Rattle.fab_dump.specs.Given.Given.{TableBlock}
+use Rattle.fab_dump.proofs.AfterHeads.{after_table_head, new_added}
 use Rattle.fab_dump.proofs.reader.PlanReader.open_table.Goals as goal
 
 pub returns : goal.returns
@@ -11,6 +13,6 @@ returns c = λ f s stands orderly.
     let mark = get_or_read blocks switch c.index.result.now within c.index.ensures false in
     let new = sym (stands.tables switch c.requires.switch) ∙ sym mark ∙ c.if-index.false in (
       _,
-      table_new f c.args.line s switch new,
-      after_table_head c.args.fabric.now f s c.args.self.now c.args.switch c.fill.new.self stands orderly new c.requires.switch (c.fill.ensures.items (λ y same. same) ∙ ap (λ n. replicate n false) c.args.self.now.rows.ok.0),
+      new_added (TwiceBlock c.args.line) s _ (TableBlock switch) new,
+      after_table_head c.args.fabric.now f s c.args.self.now stands c.args.switch c.fill.new.self orderly new c.requires.switch (c.fill.ensures.items (λ y same. same) ∙ ap (λ n. replicate n false) c.args.self.now.rows.ok.0),
     )

@@ -1,0 +1,219 @@
+ghost use Rattle.std.specs.Prelude.{◌≡◌, ◌<◌, length, Contains};
+ghost use Rattle.fab_model.specs.Records.{last_line};
+ghost use Rattle.fab_model.specs.Topology.{lids_of};
+
+use crate::{Certified, Graph, certify, first_ring, levels};
+use fab_model::{ChannelId, Desc, Fabric, Lid, NodeKind, Raw, RawLink, RawNode, SwitchId};
+use fab_tables::{End, Lanes, Plan, Tables, Verdict};
+use std::alloc::{AllocError, Global};
+use std::process::Abort;
+use std::test::Fail;
+
+// Three nodes with these edges.
+fn graph_of(rt: &impl Abort, alloc: Global, edges: &[(u32, u32)]) -> Result<Graph, AllocError> {
+    let mut graph = Graph::new(alloc, 3)?;
+    for (first, second) in edges {
+        assert!(rt; *first < graph.nodes() && *second < graph.nodes());
+        graph.push(*first, *second)?;
+    }
+    Ok(graph)
+}
+
+#[test]
+fn a_ring_begins_with_its_least_node(rt: HostRuntime) -> Result<(), Fail> {
+    let graph = graph_of(&rt, rt.alloc(), &[(2, 1), (1, 2), (0, 1)])?;
+    let ring = first_ring(rt.alloc(), &graph)?.ok_or("a ring")?;
+    assert_eq!(rt; ring.nodes(), [1, 2].as_slice());
+    assert!(rt; levels(rt.alloc(), &graph)?.is_none());
+    Ok(())
+}
+
+#[test]
+fn levels_rise_from_1(rt: HostRuntime) -> Result<(), Fail> {
+    let graph = graph_of(&rt, rt.alloc(), &[(0, 1), (0, 2), (1, 2)])?;
+    let found = levels(rt.alloc(), &graph)?.ok_or("levels")?;
+    assert_eq!(rt; found.as_slice(), [1, 2, 3].as_slice());
+    assert!(rt; first_ring(rt.alloc(), &graph)?.is_none());
+    Ok(())
+}
+
+fn node(line: u32, kind: NodeKind, guid: u64, lid: u32) -> RawNode
+    ensures { result.line ≡ line }
+{
+    RawNode {
+        line,
+        kind,
+        guid,
+        ports: 4,
+        lid,
+        lmc: 0,
+        desc: Desc::new(b""),
+    }
+}
+
+fn link(line: u32, node: u32, port: u32, far: (NodeKind, u64, u32), lid: u32) -> RawLink
+    ensures line { result.line ≡ line }
+    ensures node { result.node ≡ node }
+{
+    let (far_kind, far_guid, far_port) = far;
+    RawLink {
+        line,
+        node,
+        port,
+        far_kind,
+        far_guid,
+        far_port,
+        port_guid: 0,
+        lid,
+        lmc: 0,
+    }
+}
+
+// Switches 0, 1 and 2 with LIDs 1, 2 and 3. Port 1 of each is cabled to port 2 of the next, and port 3 to a
+// port of one adapter, with LIDs 4, 5 and 6.
+fn three_in_a_ring(alloc: Global) -> Result<Fabric, Fail> {
+    let mut raw = Raw::new(alloc);
+    raw.push_node(node(1, NodeKind::Switch, 0x10, 1))?;
+    raw.push_link(link(2, 0, 1, (NodeKind::Switch, 0x11, 2), 0))?;
+    raw.push_link(link(3, 0, 2, (NodeKind::Switch, 0x12, 1), 0))?;
+    raw.push_link(link(4, 0, 3, (NodeKind::Adapter, 0x20, 1), 0))?;
+    raw.push_node(node(5, NodeKind::Switch, 0x11, 2))?;
+    raw.push_link(link(6, 1, 1, (NodeKind::Switch, 0x12, 2), 0))?;
+    raw.push_link(link(7, 1, 2, (NodeKind::Switch, 0x10, 1), 0))?;
+    raw.push_link(link(8, 1, 3, (NodeKind::Adapter, 0x20, 2), 0))?;
+    raw.push_node(node(9, NodeKind::Switch, 0x12, 3))?;
+    raw.push_link(link(10, 2, 1, (NodeKind::Switch, 0x10, 2), 0))?;
+    raw.push_link(link(11, 2, 2, (NodeKind::Switch, 0x11, 1), 0))?;
+    raw.push_link(link(12, 2, 3, (NodeKind::Adapter, 0x20, 3), 0))?;
+    push_adapter(&mut raw)?;
+    Ok(Fabric::build(alloc, &raw)?)
+}
+
+// The adapter of three_in_a_ring.
+fn push_adapter(raw: &mut Raw) -> Result<(), AllocError>
+    requires line { last_line raw.old < 13 }
+    requires node { length raw.old.nodes ≡ 3 }
+{
+    raw.push_node(node(13, NodeKind::Adapter, 0x20, 0))?;
+    raw.push_link(link(14, 3, 1, (NodeKind::Switch, 0x10, 3), 4))?;
+    raw.push_link(link(15, 3, 2, (NodeKind::Switch, 0x11, 3), 5))?;
+    raw.push_link(link(16, 3, 3, (NodeKind::Switch, 0x12, 3), 6))?;
+    Ok(())
+}
+
+// From each switch, the port for each LID: along the line 0, 1, 2.
+const ALONG_THE_LINE: [[u8; 6]; 3] = [[0, 1, 1, 3, 1, 1], [2, 0, 1, 2, 3, 1], [2, 2, 0, 2, 2, 3]];
+
+// Each packet goes on by port 1.
+const ROUND_THE_RING: [[u8; 6]; 3] = [[0, 1, 1, 3, 1, 1], [1, 0, 1, 1, 3, 1], [1, 1, 0, 1, 1, 3]];
+
+#[tactic(auto, using(fab_tables::proofs::Ascending::lid_in_use))]
+fn nth_lid(rt: &impl Abort, fabric: &Fabric, index: u32) -> Lid
+    ensures { Contains (lids_of fabric.now) result.0 }
+{
+    fabric.lid_at(index).expect(rt, "a LID")
+}
+
+fn set_entry(rt: &impl Abort, fabric: &Fabric, plan: &mut Plan, at: (u32, u32), port: u8) {
+    let (switch, index) = at;
+    assert!(rt; plan.fits(fabric));
+    assert!(rt; switch < fabric.switches());
+    let lid = nth_lid(rt, fabric, index);
+    plan.tables.set(SwitchId(switch), lid, port);
+}
+
+fn plan_of(
+    rt: &impl Abort,
+    alloc: Global,
+    fabric: &Fabric,
+    ports: &[[u8; 6]; 3],
+) -> Result<Plan, AllocError> {
+    let mut plan = Plan {
+        tables: Tables::new(alloc, fabric)?,
+        lanes: None,
+    };
+    for switch in 0..3 {
+        for index in 0..6 {
+            let port = ports[switch as usize][index as usize];
+            set_entry(rt, fabric, &mut plan, (switch, index), port);
+        }
+    }
+    Ok(plan)
+}
+
+fn certified(
+    rt: &impl Abort,
+    alloc: Global,
+    fabric: &Fabric,
+    plan: &Plan,
+) -> Result<Certified, AllocError> {
+    assert!(rt; plan.fits(fabric));
+    certify(alloc, fabric, plan)
+}
+
+fn fault_of(answer: Certified) -> Option<Verdict> {
+    match answer {
+        Certified::Refused(fault) => Some(fault),
+        _ => None,
+    }
+}
+
+// The number of a channel's lane 0.
+fn number(rt: &impl Abort, fabric: &Fabric, plan: &Plan, channel: u32) -> u32 {
+    assert!(rt; plan.fits(fabric));
+    assert!(rt; channel < fabric.channels());
+    match &plan.lanes {
+        Some(lanes) => lanes.number(ChannelId(channel), 0),
+        None => 0,
+    }
+}
+
+#[test]
+fn numbers_rise_along_a_line(rt: HostRuntime) -> Result<(), Fail> {
+    let fabric = three_in_a_ring(rt.alloc())?;
+    let plan = plan_of(&rt, rt.alloc(), &fabric, &ALONG_THE_LINE)?;
+    let new = match certified(&rt, rt.alloc(), &fabric, &plan)? {
+        Certified::Numbers(new) => Some(new),
+        _ => None,
+    };
+    let new = new.ok_or("numbers")?;
+    for (channel, wanted) in [(0, 1), (1, 0), (2, 2), (3, 2), (4, 0), (5, 1)] {
+        assert_eq!(rt; number(&rt, &fabric, &new, channel), wanted);
+    }
+    Ok(())
+}
+
+#[test]
+fn routes_round_a_ring_use_it(rt: HostRuntime) -> Result<(), Fail> {
+    let fabric = three_in_a_ring(rt.alloc())?;
+    let plan = plan_of(&rt, rt.alloc(), &fabric, &ROUND_THE_RING)?;
+    let ring = match certified(&rt, rt.alloc(), &fabric, &plan)? {
+        Certified::RingUsed(ring) => Some(ring),
+        _ => None,
+    };
+    let ring = ring.ok_or("a ring")?;
+    assert_eq!(rt; ring.nodes(), [0, 2, 4].as_slice());
+    Ok(())
+}
+
+#[test]
+fn the_first_fault_is_refused(rt: HostRuntime) -> Result<(), Fail> {
+    let fabric = three_in_a_ring(rt.alloc())?;
+    let mut plan = plan_of(&rt, rt.alloc(), &fabric, &ALONG_THE_LINE)?;
+    plan.lanes = Some(Lanes::new(rt.alloc(), &fabric, 1)?);
+    let no_level = Verdict::NoLevel {
+        lid: Lid(1),
+        source: SwitchId(0),
+    };
+    let answer = certified(&rt, rt.alloc(), &fabric, &plan)?;
+    assert_eq!(rt; fault_of(answer), Some(no_level));
+    set_entry(&rt, &fabric, &mut plan, (1, 2), 255);
+    let unreached = Verdict::Unreached {
+        lid: Lid(3),
+        switch: SwitchId(0),
+        end: End::NoEntry,
+    };
+    let answer = certified(&rt, rt.alloc(), &fabric, &plan)?;
+    assert_eq!(rt; fault_of(answer), Some(unreached));
+    Ok(())
+}

@@ -1,0 +1,5 @@
+use Rattle.fab_dump.proofs.ReadTidy.{read_is_tidy}
+use Rattle.fab_dump.proofs.laws.read_is_tidy.Goals as goal
+
+pub returns : goal.returns
+returns c = read_is_tidy

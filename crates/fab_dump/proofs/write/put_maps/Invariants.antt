@@ -1,0 +1,11 @@
+use Rattle.std.proofs.Common.{take, Ok}
+use Rattle.std.specs.List.{flat_map, enumerate_from}
+use Rattle.fab_dump.specs.Writing.{PutsText, lines_text, map_block}
+use Rattle.fab_dump.specs.BlockValues.{BeginAt}
+use Rattle.fab_dump.proofs.write.put_maps.Given as goal
+
+abbrev pub invariant-loop-switch : goal.invariant-loop-switch
+invariant-loop-switch g l = record {
+  put : PutsText (lines_text (flat_map (map_block l.lanes) (take l.switch (enumerate_from 0 l.fabric.switches)))) (g.S.Sink.told l.initial.sink) (g.S.Sink.told l.sink) (g.S.Sink.faults l.initial.sink) (g.S.Sink.faults l.sink) (Ok tt);
+  pairs : BeginAt l.lanes.pairs l.switch l.first;
+}

@@ -1,0 +1,164 @@
+ghost use Rattle.std.specs.Prelude.{◌≡◌, ◌<◌, ℕ, length, is_some, if◌then◌else◌, option_and_then, None, Some, [], ◌∷◌};
+ghost use Rattle.fab_model.specs.Topology.{switch_of};
+ghost use Rattle.fab_dump.specs.declared.fault.PlanFault.TheVariants.{BadRow, TwiceBlock, BadLevelRow, BadLaneRow};
+ghost use Rattle.fab_dump.specs.declared.form.Block.TheVariants.{Levels, MapRow, Numbers};
+ghost use Rattle.fab_dump.specs.Given.Given.{LevelBlock, MapBlock, Certificate};
+ghost use Rattle.fab_dump.specs.Lines.Next.{Fails};
+ghost use Rattle.fab_dump.specs.Lines.{Form, State, adds, a_source, head_guid, levels_head, map_head, opens, table_guid, table_head, table_of, plan_line};
+ghost use Rattle.fab_dump.specs.Orderly.{IsOrderly};
+ghost use Rattle.fab_dump.specs.Standing.{ReaderFits, Stands, Says};
+
+use crate::PlanFault;
+use crate::form::Block;
+use crate::line_kind::{LEVELS_HEAD, MAP_HEAD};
+use crate::reader::PlanReader;
+use crate::rows::{head_switch, table_guid};
+use fab_model::{Fabric, SwitchId};
+
+impl PlanReader {
+    fn has_lanes(&self) -> bool
+        ensures { result ≡ is_some self.now.plan.lanes }
+    {
+        self.plan.lanes.is_some()
+    }
+
+    /// Opens the table block of a switch.
+    fn open_table(&mut self, fabric: &Fabric, line: u32, switch: SwitchId) -> Result<(), PlanFault>
+        requires fits { ReaderFits fabric.now self.old }
+        requires switch { switch.0 < length fabric.now.switches }
+        ensures { (f : Form) (s : State) → Stands fabric.now f s self.old → IsOrderly fabric.now f s → Says fabric.now f self.new result
+            (table_of f line s (Some switch.0)) }
+    {
+        let _ = fabric;
+        let number = switch.0 as usize;
+        if self.table_blocks[number] {
+            return Err(PlanFault::TwiceBlock { line });
+        }
+        self.table_blocks[number] = true;
+        self.rows.fill(false);
+        self.block = Block::Table(Some(switch));
+        Ok(())
+    }
+
+    /// Reads the head of a table block.
+    pub(crate) fn table_head(
+        &mut self,
+        fabric: &Fabric,
+        line: u32,
+        bytes: &[u8],
+    ) -> Result<(), PlanFault>
+        requires fits { ReaderFits fabric.now self.old }
+        ensures { (f : Form) (s : State) → Stands fabric.now f s self.old → IsOrderly fabric.now f s → Says fabric.now f self.new result
+            (table_head fabric.now f line s (table_guid bytes.now)) }
+    {
+        let Some(guid) = table_guid(bytes) else {
+            return Err(PlanFault::BadRow { line });
+        };
+        if let Some(switch) = fabric.switch_of(guid) {
+            return self.open_table(fabric, line, switch);
+        }
+        if !self.version.says_one_lid() {
+            return Err(PlanFault::BadRow { line });
+        }
+        self.block = Block::Table(None);
+        Ok(())
+    }
+
+    /// Opens the levels block of a switch.
+    fn open_levels(&mut self, fabric: &Fabric, line: u32, switch: SwitchId) -> Result<(), PlanFault>
+        requires fits { ReaderFits fabric.now self.old }
+        requires switch { switch.0 < length fabric.now.switches }
+        ensures { (f : Form) (s : State) → Stands fabric.now f s self.old → IsOrderly fabric.now f s → Says fabric.now f self.new result
+            (opens (BadLevelRow line) (TwiceBlock line) s Levels LevelBlock (Some switch.0)) }
+    {
+        let _ = fabric;
+        let number = switch.0 as usize;
+        if self.level_blocks[number] {
+            return Err(PlanFault::TwiceBlock { line });
+        }
+        self.level_blocks[number] = true;
+        self.rows.fill(false);
+        self.block = Block::Levels(switch);
+        Ok(())
+    }
+
+    /// Reads the head of a levels block.
+    pub(crate) fn levels_head(
+        &mut self,
+        fabric: &Fabric,
+        line: u32,
+        bytes: &[u8],
+    ) -> Result<(), PlanFault>
+        requires fits { ReaderFits fabric.now self.old }
+        ensures { (f : Form) (s : State) → Stands fabric.now f s self.old → IsOrderly fabric.now f s → Says fabric.now f self.new result
+            (if is_some f.count then opens (BadLevelRow line) (TwiceBlock line) s Levels LevelBlock (a_source fabric.now (option_and_then (switch_of fabric.now) (head_guid levels_head bytes.now)))
+            else Fails (BadRow line)) }
+    {
+        if !self.has_lanes() {
+            return Err(PlanFault::BadRow { line });
+        }
+        let Some(switch) = head_switch(fabric, LEVELS_HEAD, bytes) else {
+            return Err(PlanFault::BadLevelRow { line });
+        };
+        if !fabric.has_terminal(switch) {
+            return Err(PlanFault::BadLevelRow { line });
+        }
+        self.open_levels(fabric, line, switch)
+    }
+
+    /// Opens the lane map of a switch.
+    fn open_map(&mut self, fabric: &Fabric, line: u32, switch: SwitchId) -> Result<(), PlanFault>
+        requires fits { ReaderFits fabric.now self.old }
+        requires switch { switch.0 < length fabric.now.switches }
+        ensures { (f : Form) (s : State) → Stands fabric.now f s self.old → IsOrderly fabric.now f s → Says fabric.now f self.new result
+            (opens (BadLaneRow line) (TwiceBlock line) s MapRow MapBlock (Some switch.0)) }
+    {
+        let _ = fabric;
+        let number = switch.0 as usize;
+        if self.map_blocks[number] {
+            return Err(PlanFault::TwiceBlock { line });
+        }
+        self.map_blocks[number] = true;
+        self.block = Block::MapRow(switch);
+        Ok(())
+    }
+
+    /// Reads the head of a lane map.
+    pub(crate) fn map_head(
+        &mut self,
+        fabric: &Fabric,
+        line: u32,
+        bytes: &[u8],
+    ) -> Result<(), PlanFault>
+        requires fits { ReaderFits fabric.now self.old }
+        ensures { (f : Form) (s : State) → Stands fabric.now f s self.old → IsOrderly fabric.now f s → Says fabric.now f self.new result
+            (if is_some f.count then opens (BadLaneRow line) (TwiceBlock line) s MapRow MapBlock (option_and_then (switch_of fabric.now) (head_guid map_head bytes.now))
+            else Fails (BadRow line)) }
+    {
+        if !self.has_lanes() {
+            return Err(PlanFault::BadRow { line });
+        }
+        match head_switch(fabric, MAP_HEAD, bytes) {
+            Some(switch) => self.open_map(fabric, line, switch),
+            None => Err(PlanFault::BadLaneRow { line }),
+        }
+    }
+
+    /// Reads the head of the certificate.
+    pub(crate) fn certificate_head(&mut self, fabric: &Fabric, line: u32) -> Result<(), PlanFault>
+        requires fits { ReaderFits fabric.now self.old }
+        ensures { (f : Form) (s : State) → Stands fabric.now f s self.old → IsOrderly fabric.now f s → Says fabric.now f self.new result
+            (if is_some f.count then adds (TwiceBlock line) s Numbers (Certificate ∷ []) else Fails (BadRow line)) }
+    {
+        let _ = fabric;
+        if !self.has_lanes() {
+            return Err(PlanFault::BadRow { line });
+        }
+        if self.certificate {
+            return Err(PlanFault::TwiceBlock { line });
+        }
+        self.certificate = true;
+        self.block = Block::Numbers;
+        Ok(())
+    }
+}

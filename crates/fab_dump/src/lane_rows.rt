@@ -1,0 +1,117 @@
+ghost use Rattle.std.specs.Prelude.{◌≡◌, ◌<◌, ℕ, length, not, IfSome, ◌==◌};
+ghost use Rattle.fab_text.specs.Fields.{fields};
+ghost use Rattle.fab_tables.specs.LaneTables.{number};
+ghost use Rattle.fab_dump.specs.Lines.{Form, State, adds_number, adds_pair, lanes_read, map_row, number_row, pair_in, pair_row};
+ghost use Rattle.fab_dump.specs.Orderly.{IsOrderly};
+ghost use Rattle.fab_dump.specs.Standing.{ReaderFits, Stands, Says};
+
+use crate::PlanFault;
+use crate::form::Block;
+use crate::reader::PlanReader;
+use crate::rows::{lanes_in, number_row, pair_row};
+use crate::statements::{give_map, give_number, give_pair};
+use fab_model::{ChannelId, Fabric, SwitchId};
+use fab_tables::{PairFault, Plan};
+
+/// Whether a channel's data lane has a number.
+fn has_number(plan: &Plan, channel: ChannelId, lane: u8) -> bool
+    requires channel { IfSome plan.now.lanes (λ l. channel.0 < l.channels) }
+    requires lane { lane < 15 }
+    ensures { IfSome plan.now.lanes (λ l. result ≡ not (number l channel.0 lane == 0)) }
+{
+    match &plan.lanes {
+        Some(lanes) => lanes.number(channel, lane) != 0,
+        None => false,
+    }
+}
+
+impl PlanReader {
+    /// Reads the row of a lane map.
+    pub(crate) fn map_row(
+        &mut self,
+        fabric: &Fabric,
+        line: u32,
+        switch: SwitchId,
+        bytes: &[u8],
+    ) -> Result<(), PlanFault>
+        requires fits { ReaderFits fabric.now self.old }
+        requires block { self.old.block ≡ Block.MapRow switch }
+        ensures { (f : Form) (s : State) → Stands fabric.now f s self.old → IsOrderly fabric.now f s → Says fabric.now f self.new result
+            (map_row f line s switch.0 (lanes_read (fields bytes.now))) }
+    {
+        let _ = fabric;
+        let Some(map) = lanes_in(bytes) else {
+            return Err(PlanFault::BadLaneRow { line });
+        };
+        give_map(&mut self.plan, switch, &map);
+        self.block = if self.version.has_pairs() {
+            Block::Pairs(switch)
+        } else {
+            Block::Nothing
+        };
+        Ok(())
+    }
+
+    /// Reads the map of a pair of ports of a switch.
+    fn pair_row(
+        &mut self,
+        fabric: &Fabric,
+        line: u32,
+        switch: SwitchId,
+        bytes: &[u8],
+    ) -> Result<(), PlanFault>
+        requires fits { ReaderFits fabric.now self.old }
+        requires block { self.old.block ≡ Block.Pairs switch }
+        ensures { (f : Form) (s : State) → Stands fabric.now f s self.old → IsOrderly fabric.now f s → Says fabric.now f self.new result
+            (adds_pair line s switch.0 (pair_row fabric.now switch.0 (fields bytes.now))) }
+    {
+        let Some(row) = pair_row(fabric, switch, bytes) else {
+            return Err(PlanFault::BadLaneRow { line });
+        };
+        match give_pair(&mut self.plan, row) {
+            Ok(true) => Ok(()),
+            Ok(false) => Err(PlanFault::TwiceRow { line }),
+            Err(PairFault::TooMany) => Err(PlanFault::TooManyPairs { line }),
+            Err(PairFault::Memory(fault)) => Err(PlanFault::Memory(fault)),
+        }
+    }
+
+    /// Reads a line that begins as the map of a pair of ports does.
+    pub(crate) fn pair_line(
+        &mut self,
+        fabric: &Fabric,
+        line: u32,
+        bytes: &[u8],
+    ) -> Result<(), PlanFault>
+        requires fits { ReaderFits fabric.now self.old }
+        ensures { (f : Form) (s : State) → Stands fabric.now f s self.old → IsOrderly fabric.now f s → Says fabric.now f self.new result
+            (pair_in fabric.now line s s.open_block bytes.now) }
+    {
+        match self.block {
+            Block::Pairs(switch) => self.pair_row(fabric, line, switch, bytes),
+            _ => Err(PlanFault::BadRow { line }),
+        }
+    }
+
+    /// Reads a row of the certificate.
+    pub(crate) fn number_row(
+        &mut self,
+        fabric: &Fabric,
+        line: u32,
+        bytes: &[u8],
+    ) -> Result<(), PlanFault>
+        requires fits { ReaderFits fabric.now self.old }
+        requires block { self.old.block ≡ Block.Numbers }
+        ensures { (f : Form) (s : State) → Stands fabric.now f s self.old → IsOrderly fabric.now f s → Says fabric.now f self.new result
+            (adds_number line s (number_row fabric.now (fields bytes.now))) }
+    {
+        let Some((channel, lane, number)) = number_row(fabric, bytes) else {
+            return Err(PlanFault::BadNumber { line });
+        };
+        if has_number(&self.plan, channel, lane) {
+            return Err(PlanFault::TwiceRow { line });
+        }
+        give_number(&mut self.plan, channel, lane, number);
+        Ok(())
+    }
+}

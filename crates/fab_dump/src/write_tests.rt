@@ -1,0 +1,225 @@
+ghost use Rattle.std.specs.Prelude.{◌≡◌, Contains};
+ghost use Rattle.fab_model.specs.Topology.{lids_of};
+
+use crate::{WriteFault, write_plan};
+use fab_io::MemorySink;
+use fab_model::{ChannelId, Desc, Fabric, Lid, NodeKind, Raw, RawLink, RawNode, SwitchId};
+use fab_tables::{Lanes, PairRow, Plan, Tables};
+use std::alloc::Global;
+use std::process::Abort;
+use std::test::Fail;
+
+// Level 0 on lane 0, and all others on lane 15.
+const ONE_LANE: [u8; 16] = [
+    0, 15, 15, 15, 15, 15, 15, 15, 15, 15, 15, 15, 15, 15, 15, 15,
+];
+
+const WITHOUT_LANES: &[u8] = b"fabroute plan 2\n\
+lanes none\n\
+Unicast lids [0x0001-0x0003] of switch Lid 1 guid 0x0000000000010000 (switch 0):\n\
+0x0001 000 001 002\n\
+Unicast lids [0x0001-0x0003] of switch Lid 2 guid 0x0000000000010001 (switch 1):\n\
+0x0001 001 000 001\n\
+end plan\n";
+
+const WITHOUT_PAIRS: &[u8] = b"fabroute plan 2\n\
+lanes 1\n\
+Unicast lids [0x0001-0x0003] of switch Lid 1 guid 0x0000000000010000 (switch 0):\n\
+0x0001 000 001 002\n\
+Unicast lids [0x0001-0x0003] of switch Lid 2 guid 0x0000000000010001 (switch 1):\n\
+0x0001 001 000 001\n\
+Levels of switch guid 0x0000000000010000:\n\
+0x0001 00 00 00\n\
+Lane map of switch guid 0x0000000000010000:\n\
+00 15 15 15 15 15 15 15 15 15 15 15 15 15 15 15\n\
+Lane map of switch guid 0x0000000000010001:\n\
+00 15 15 15 15 15 15 15 15 15 15 15 15 15 15 15\n\
+Certificate:\n\
+0x0000000000010000 001 00 1\n\
+end plan\n";
+
+const WITH_A_PAIR: &[u8] = b"fabroute plan 3\n\
+lanes 15\n\
+Unicast lids [0x0001-0x0003] of switch Lid 1 guid 0x0000000000010000 (switch 0):\n\
+0x0001 000 001 002\n\
+Unicast lids [0x0001-0x0003] of switch Lid 2 guid 0x0000000000010001 (switch 1):\n\
+0x0001 001 000 001\n\
+Levels of switch guid 0x0000000000010000:\n\
+0x0001 -- 15 --\n\
+Lane map of switch guid 0x0000000000010000:\n\
+15 15 15 15 15 15 15 15 15 15 15 15 15 15 15 15\n\
+Lane map of switch guid 0x0000000000010001:\n\
+15 15 15 15 15 15 15 15 15 15 15 15 15 15 15 15\n\
+[001 000] 00 15 15 15 15 15 15 15 15 15 15 15 15 15 15 15\n\
+Certificate:\n\
+0x0000000000010001 001 14 4294967295\n\
+end plan\n";
+
+fn node(line: u32, kind: NodeKind, guid: u64, ports: u32, lid: u32, desc: Desc) -> RawNode
+    ensures { result.line ≡ line }
+{
+    RawNode {
+        line,
+        kind,
+        guid,
+        ports,
+        lid,
+        lmc: 0,
+        desc,
+    }
+}
+
+fn link(line: u32, node: u32, port: u32, far_kind: NodeKind, far_guid: u64) -> RawLink
+    ensures line { result.line ≡ line }
+    ensures node { result.node ≡ node }
+{
+    RawLink {
+        line,
+        node,
+        port,
+        far_kind,
+        far_guid,
+        far_port: 1,
+        port_guid: 0,
+        lid: 0,
+        lmc: 0,
+    }
+}
+
+// Two switches cabled to each other, and a terminal at the first.
+fn stub(alloc: Global) -> Result<Fabric, Fail> {
+    let mut raw = Raw::new(alloc);
+    raw.push_node(node(1, NodeKind::Switch, 0x10000, 2, 1, Desc::new(b"switch 0")))?;
+    raw.push_link(link(2, 0, 1, NodeKind::Switch, 0x10001))?;
+    raw.push_link(link(3, 0, 2, NodeKind::Adapter, 0x20000))?;
+    raw.push_node(node(4, NodeKind::Switch, 0x10001, 1, 2, Desc::new(b"switch 1")))?;
+    raw.push_link(link(5, 1, 1, NodeKind::Switch, 0x10000))?;
+    raw.push_node(node(6, NodeKind::Adapter, 0x20000, 1, 0, Desc::new(b"node 0")))?;
+    raw.push_link(RawLink {
+        line: 7,
+        node: 2,
+        port: 1,
+        far_kind: NodeKind::Switch,
+        far_guid: 0x10000,
+        far_port: 2,
+        port_guid: 0x20000,
+        lid: 3,
+        lmc: 0,
+    })?;
+    Ok(Fabric::build(alloc, &raw)?)
+}
+
+// The LID at a place of the ascending list of those in use.
+#[tactic(auto, using(fab_tables::proofs::Ascending::lid_in_use))]
+fn nth_lid(rt: &impl Abort, fabric: &Fabric, index: u32) -> Lid
+    ensures { Contains (lids_of fabric.now) result.0 }
+{
+    fabric.lid_at(index).expect(rt, "a LID")
+}
+
+fn set_entry(rt: &impl Abort, fabric: &Fabric, plan: &mut Plan, at: (u32, u32), port: u8) {
+    let (switch, index) = at;
+    assert!(rt; plan.fits(fabric));
+    assert!(rt; switch < fabric.switches());
+    let lid = nth_lid(rt, fabric, index);
+    plan.tables.set(SwitchId(switch), lid, port);
+}
+
+// Routes to the three LIDs, without lanes.
+fn routes(rt: &impl Abort, alloc: Global, fabric: &Fabric) -> Result<Plan, Fail> {
+    let mut plan = Plan {
+        tables: Tables::new(alloc, fabric)?,
+        lanes: None,
+    };
+    let ports = [[0, 1, 2], [1, 0, 1]];
+    for switch in 0..2 {
+        for index in 0..3 {
+            let port = ports[switch as usize][index as usize];
+            set_entry(rt, fabric, &mut plan, (switch, index), port);
+        }
+    }
+    Ok(plan)
+}
+
+// Level 0 for each LID, on lane 0 at both switches, with one number.
+fn plain_lanes(rt: &impl Abort, alloc: Global, fabric: &Fabric) -> Result<Lanes, Fail> {
+    assert_eq!(rt; fabric.switches(), 2);
+    assert_eq!(rt; fabric.channels(), 2);
+    let mut lanes = Lanes::new(alloc, fabric, 1)?;
+    lanes.set_level(SwitchId(0), nth_lid(rt, fabric, 0), Some(0));
+    lanes.set_level(SwitchId(0), nth_lid(rt, fabric, 1), Some(0));
+    lanes.set_level(SwitchId(0), nth_lid(rt, fabric, 2), Some(0));
+    lanes.set_lane(SwitchId(0), 0, 0);
+    lanes.set_lane(SwitchId(1), 0, 0);
+    lanes.set_number(ChannelId(0), 0, 1);
+    Ok(lanes)
+}
+
+// One level, one number, and a pair of ports with a map.
+fn lanes_with_a_pair(rt: &impl Abort, alloc: Global, fabric: &Fabric) -> Result<Lanes, Fail> {
+    assert_eq!(rt; fabric.switches(), 2);
+    assert_eq!(rt; fabric.channels(), 2);
+    let mut lanes = Lanes::new(alloc, fabric, 15)?;
+    lanes.set_level(SwitchId(0), nth_lid(rt, fabric, 1), Some(15));
+    lanes.set_number(ChannelId(1), 14, u32::MAX);
+    let row = PairRow {
+        switch: SwitchId(1),
+        from_port: 1,
+        to_port: 0,
+        map: ONE_LANE,
+    };
+    let set = lanes.set_pair(row).is_ok();
+    assert!(rt; set);
+    Ok(lanes)
+}
+
+fn writes(
+    rt: &impl Abort,
+    alloc: Global,
+    fabric: &Fabric,
+    plan: &Plan,
+    text: &[u8],
+) -> Result<(), Fail> {
+    assert!(rt; plan.fits(fabric));
+    let mut sink = MemorySink::new(alloc);
+    write_plan(alloc, fabric, plan, &mut sink)?;
+    assert!(rt; sink.bytes() == text);
+    Ok(())
+}
+
+#[test]
+fn plan_without_lanes(rt: HostRuntime) -> Result<(), Fail> {
+    let fabric = stub(rt.alloc())?;
+    let plan = routes(&rt, rt.alloc(), &fabric)?;
+    writes(&rt, rt.alloc(), &fabric, &plan, WITHOUT_LANES)
+}
+
+#[test]
+fn plan_without_pairs(rt: HostRuntime) -> Result<(), Fail> {
+    let fabric = stub(rt.alloc())?;
+    let mut plan = routes(&rt, rt.alloc(), &fabric)?;
+    plan.lanes = Some(plain_lanes(&rt, rt.alloc(), &fabric)?);
+    writes(&rt, rt.alloc(), &fabric, &plan, WITHOUT_PAIRS)
+}
+
+#[test]
+fn plan_with_a_pair(rt: HostRuntime) -> Result<(), Fail> {
+    let fabric = stub(rt.alloc())?;
+    let mut plan = routes(&rt, rt.alloc(), &fabric)?;
+    plan.lanes = Some(lanes_with_a_pair(&rt, rt.alloc(), &fabric)?);
+    writes(&rt, rt.alloc(), &fabric, &plan, WITH_A_PAIR)
+}
+
+// The second put fails once it kept 7 bytes of the first table block.
+#[test]
+fn write_stops(rt: HostRuntime) -> Result<(), Fail> {
+    let fabric = stub(rt.alloc())?;
+    let plan = routes(&rt, rt.alloc(), &fabric)?;
+    assert!(rt; plan.fits(&fabric));
+    let mut sink = MemorySink::new(rt.alloc());
+    sink.fail(2, 7)?;
+    let outcome = write_plan(rt.alloc(), &fabric, &plan, &mut sink);
+    assert!(rt; matches!(outcome, Err(WriteFault::Failed)));
+    assert!(rt; sink.bytes() == b"fabroute plan 2\nlanes none\nUnicast".as_slice());
+    Ok(())
+}

@@ -1,0 +1,39 @@
+-- Words that no command has.
+use Rattle.std.proofs.Common.{◌≡◌, ℕ, ◌<◌, Bool, true, false, List, [], ◌∷◌, length, Option, None, Some, String, refl, subst, sym, ◌∙◌, ap, arith, inl, inr, codes, slice_index_or, Ok, Err, ◌++◌}
+use Rattle.std.specs.Prelude.{option_map, option_and_then, find, if◌then◌else◌}
+use Rattle.std.specs.Str.{bytes_eq}
+use Rattle.std.specs.String.{string_bytes}
+use Rattle.std.proofs.lemmas.Slice.Eq.{bytes_eq-Decides}
+use Rattle.std.specs.Bool.{Decides}
+use Rattle.fab_top.specs.declared.command.Command.{Command}
+use Rattle.fab_top.specs.declared.words.WordsFault.TheVariants.{Words}
+use Rattle.fab_top.specs.ReadWords.{or_unknown}
+use Rattle.fab_top.specs.Words.{texts, named, command_of, commands}
+
+-- a word that a table does not begin with is looked for behind
+other_word : (b : Bool) (xs ys : List ℕ) → Decides b (xs ≡ ys) → (ys ≡ xs → ⊥) → b ≡ false
+other_word true xs ys decides other = absurd (other (sym (decides.0 refl)))
+other_word false xs ys decides other = refl
+
+past_word : {A : Type 0} (row : List ℕ × A) (table : List (List ℕ × A)) (word : List ℕ) → (word ≡ row.0 → ⊥) → named (row ∷ table) word ≡ named table word
+past_word {A} row table word other =
+    let is : bytes_eq row.0 word ≡ false = other_word _ row.0 word (bytes_eq-Decides row.0 word) other in
+    let P : Bool → Type 0 = λ b. option_map (λ (r : List ℕ × A). r.1) (if b then Some row else find (λ r. bytes_eq r.0 word) table) ≡ named table word in
+    subst P (sym is) refl
+
+-- the word is none of a table's
+abbrev IsNoneOf : {A : Type 0} → List (List ℕ × A) → List ℕ → Type 0
+IsNoneOf [] word = Unit {0}
+IsNoneOf (row ∷ table) word = (word ≡ row.0 → ⊥) × IsNoneOf table word
+
+not_named : {A : Type 0} (table : List (List ℕ × A)) (word : List ℕ) → IsNoneOf table word → named table word ≡ None
+not_named [] word others = refl
+not_named (row ∷ table) word others = past_word row table word others.0 ∙ not_named table word others.1
+
+pub no_such_command : {Z : Type 0} (words : List (String Z)) (name : String Z) → 0 < length words → name ≡ slice_index_or words 0 name →
+    (string_bytes name ≡ codes "check" → ⊥) → (string_bytes name ≡ codes "certify" → ⊥) → (string_bytes name ≡ codes "convert" → ⊥) →
+    or_unknown (command_of (texts words)) ≡ Err Words
+no_such_command [] name some is check certify convert = absurd (omega (arith, some))
+no_such_command {Z} (word ∷ others) name some is check certify convert =
+    let P : String Z → Type 0 = λ w. or_unknown (command_of (texts (w ∷ others))) ≡ Err Words in
+    subst P is (ap (λ (o : Option (List (List ℕ) → Option Command)). or_unknown (option_and_then (λ form. form (texts others)) o)) (not_named commands (string_bytes name) (check, (certify, (convert, tt)))))

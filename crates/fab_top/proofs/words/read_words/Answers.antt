@@ -1,0 +1,10 @@
+use Rattle.std.proofs.Common.{◌∙◌, sym, ap, arith}
+use Rattle.fab_top.proofs.Wording.{no_such_command}
+use Rattle.fab_top.proofs.words.read_words.Goals as goal
+
+pub returns-in_default-as_str : goal.returns-in_default-as_str
+returns-in_default-as_str c =
+    no_such_command c.args.words.now c.name-item.result (omega (arith, c.in-len1-up.len_at_least)) c.name-item.is
+    (λ e. c.in_default-as_str.not-check (c.as_str.ensures.value ∙ e))
+    (λ e. c.in_default-as_str.not-certify (c.as_str.ensures.value ∙ e))
+    (λ e. c.in_default-as_str.not-convert (c.as_str.ensures.value ∙ e))
