@@ -19,3 +19,15 @@ pub mod LaneSets
 pub mod LoopRepeats
 pub mod LanesChange
 pub mod ReadLanes
+pub mod Walks
+pub mod Search
+pub mod Leaving
+pub mod Tips
+pub mod Routes
+pub mod Lids
+pub mod Firsts
+pub mod Ways
+pub mod RouteFaults
+pub mod StartsSorted
+pub mod LevelsLow
+pub mod StartFaults

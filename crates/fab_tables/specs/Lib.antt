@@ -12,6 +12,11 @@ pub mod Dependencies
 pub mod Reading
 pub mod Certified
 pub mod Verdicts
+pub mod First
+pub mod Components
+pub mod Searching
+pub mod Reaching
+pub mod Starts
 pub mod Deadlock
 pub mod Plain
 pub mod Trees

@@ -1,7 +1,10 @@
-//! Forwarding tables, service levels and lane maps, following, and what a check of a plan answers.
+//! Forwarding tables, service levels and lane maps, following, and what a check of a plan answers: with what
+//! all that judges plans shares, the components of a fabric, the starts of packets and the first route that
+//! isn't delivered.
 #![tactic(auto)]
 
 mod columns;
+mod components;
 mod end;
 mod following;
 mod lanes;
@@ -9,6 +12,8 @@ mod laws;
 mod level_byte;
 mod pairs;
 mod plan;
+mod reaching;
+mod starts;
 mod tables;
 #[cfg(test)]
 mod tests;
@@ -16,6 +21,7 @@ mod tree;
 mod verdict;
 
 pub use columns::Columns;
+pub use components::Components;
 pub use end::End;
 pub use following::{Following, follow};
 pub use lanes::{Lanes, PairFault, PairRow};
@@ -25,6 +31,8 @@ pub use laws::{
     reading_agrees, rising_is_free_of_deadlock, routes_reaches,
 };
 pub use plan::Plan;
+pub use reaching::first_unreached;
+pub use starts::{Start, starts_of};
 pub use tables::Tables;
 pub use tree::Tree;
 pub use verdict::{Verdict, VirtualChannel};

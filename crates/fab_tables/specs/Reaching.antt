@@ -1,0 +1,19 @@
+-- Routes to one LID, some of which are known to be delivered.
+use Rattle.std.specs.Prelude.{◌≡◌, ℕ, List, length, Contains, Bool, true, false, slice_index_or}
+use Rattle.fab_model.specs.Topology.{Topology, lids_of}
+use Rattle.fab_model.specs.WellFormed.{IsFabric}
+use Rattle.fab_tables.specs.declared.end.End.TheVariants.{Delivered}
+use Rattle.fab_tables.specs.Entries.{Entries}
+use Rattle.fab_tables.specs.Fit.{EntriesFit}
+use Rattle.fab_tables.specs.Route.{route}
+
+-- the entries of a fabric, and one of its LIDs
+pub record IsToward (t : Topology) (e : Entries) (lid : ℕ) : Type 0 where
+  pub fabric : IsFabric t
+  pub fits : EntriesFit t e
+  pub in_use : Contains (lids_of t) lid
+
+-- each switch that is marked has a delivered route
+pub record AreMarks (t : Topology) (e : Entries) (lid : ℕ) (marks : List Bool) : Type 0 where
+  pub room : length marks ≡ length t.switches
+  pub delivered : (s : ℕ) → slice_index_or marks s false ≡ true → (route t e s lid).end ≡ Delivered

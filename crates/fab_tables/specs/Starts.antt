@@ -1,0 +1,35 @@
+-- Where the packets of the terminals start.
+use Rattle.std.specs.Prelude.{◌≡◌, ℕ, ◌<◌, ◌≤◌, ◌⊎◌, List, Some, All, Contains, length, slice_index_or}
+use Rattle.fab_model.specs.declared.rows.TerminalRow.{TerminalRow}
+use Rattle.fab_model.specs.Topology.{Topology}
+use Rattle.fab_model.specs.Connected.{IsConnectedTo}
+use Rattle.fab_tables.specs.declared.starts.Start.{Start}
+use Rattle.fab_tables.specs.Entries.{Entries}
+use Rattle.fab_tables.specs.Fit.{LanesFit}
+use Rattle.fab_tables.specs.LaneTables.{LaneTables, level}
+use Rattle.fab_tables.specs.Reaching.{IsToward}
+
+abbrev pub start_of : TerminalRow → Start
+start_of row = record { switch = row.switch; port = row.port }
+
+-- by switch, and then by port
+abbrev pub IsNotAfter : Start → Start → Type 0
+IsNotAfter a b = (a.switch.0 < b.switch.0) ⊎ ((a.switch.0 ≡ b.switch.0) × (a.port ≤ b.port))
+
+-- some terminal of the fabric starts there
+abbrev pub IsOfTerminal : Topology → Start → Type 0
+IsOfTerminal t start = (row : TerminalRow) × Contains t.terminals row × (start_of row ≡ start)
+
+-- those of all terminals of a fabric, in order
+pub record AreStarts (t : Topology) (starts : List Start) : Type 0 where
+  pub in_order : (i j : ℕ) (d : Start) → i ≤ j → j < length starts → IsNotAfter (slice_index_or starts i d) (slice_index_or starts j d)
+  pub terminals : All (IsOfTerminal t) starts
+  pub all : All (λ row. Contains starts (start_of row)) t.terminals
+
+-- packets to a LID start there, and have this level
+pub record StartsAt (t : Topology) (e : Entries) (l : LaneTables) (lid : ℕ) (start : Start) (of_level : ℕ) : Type 0 where
+  pub toward : IsToward t e lid
+  pub lanes : LanesFit t l
+  pub terminal : IsOfTerminal t start
+  pub connected : IsConnectedTo t start.switch.0 lid
+  pub has_level : level l start.switch.0 lid ≡ Some of_level
