@@ -1,6 +1,6 @@
 -- Faults of the hops of a terminal's route, by their places.
 use Rattle.std.proofs.Common.{◌≡◌, ℕ, suc, ◌<◌, ◌≤◌, Bool, true, false, List, [], ◌∷◌, length, drop, refl, sym, ◌∙◌, ap, subst, inl, inr, ◌⊎◌, arith, Some, None, Option, slice_get}
-use Rattle.std.specs.Prelude.{slice_index, nat_le, IsSome, is_some, ◌==◌, if◌then◌else◌}
+use Rattle.std.specs.Prelude.{slice_index, nat_le, IsSome, ◌==◌, if◌then◌else◌}
 use Rattle.std.proofs.lemmas.Bool.{cases_lt, leb-true, leb-false, eqb-true, eqb-false}
 use Rattle.std.proofs.lemmas.Option.{same_Some, none-some, slice_get_within, get_or_from_slice_get}
 use Rattle.std.proofs.lemmas.List.{length-drop}
@@ -22,11 +22,12 @@ use Rattle.fab_tables.specs.Route.{route}
 use Rattle.fab_tables.specs.VirtualChannels.{virtual_channel, virtual_channels, on_channels, at_level, hop_lane, arrival}
 use Rattle.fab_tables.specs.Certified.{number_of}
 use Rattle.fab_tables.specs.Verdicts.{IsBefore, IsFirst, IsHop, Leaves, IsLaneFaultAt}
-use Rattle.fab_check.specs.declared.starts.Start.{Start}
-use Rattle.fab_check.specs.First.{FindsFirst, Beneath}
-use Rattle.fab_check.specs.Hops.{fault_after, fault_of_hop, StartsAt}
-use Rattle.fab_check.proofs.Firsts.{none_beneath, first_beneath}
-use Rattle.fab_check.proofs.Ways.{IsOnWay, drop_step, goes_on, channel_low}
+use Rattle.fab_tables.specs.declared.starts.Start.{Start}
+use Rattle.fab_tables.specs.First.{FindsFirst, Beneath}
+use Rattle.fab_tables.specs.Starts.{StartsAt}
+use Rattle.fab_tables.proofs.Firsts.{none_beneath, first_beneath}
+use Rattle.fab_tables.proofs.Ways.{IsOnWay, drop_step, goes_on, channel_low}
+use Rattle.fab_check.specs.Hops.{fault_after, fault_of_hop}
 
 -- the hop before the one of this count, if there is one
 abbrev pub IsLast : LaneTables → List VirtualChannel → ℕ → Option VirtualChannel → Type 0
@@ -361,8 +362,3 @@ starts_along t e l lid start of_level starts ahead channels ends = record {
   last = refl;
   clear = λ k low. absurd (omega arith);
 }
-
--- what was not found is none
-pub none_found : (found : Option Verdict) → is_some found ≡ false → found ≡ None
-none_found None e = refl
-none_found (Some fault) e = cc

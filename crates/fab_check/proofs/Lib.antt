@@ -1,14 +1,2 @@
-pub mod Walks
-pub mod Search
-pub mod Leaving
-pub mod Tips
-pub mod Routes
-pub mod Lids
-pub mod Firsts
-pub mod Ways
-pub mod RouteFaults
 pub mod Verdict
-pub mod StartsSorted
 pub mod HopFaults
-pub mod LevelsLow
-pub mod StartFaults

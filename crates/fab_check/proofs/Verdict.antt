@@ -12,10 +12,10 @@ use Rattle.fab_tables.specs.Verdicts.{IsBefore, IsFirst, IsLaneFaultAt, IsFaultA
 use Rattle.fab_tables.proofs.CertifiedLaws.{lanes_is_certified, routes_reaches}
 use Rattle.fab_tables.proofs.OneVerdict.{one_verdict}
 use Rattle.fab_tables.proofs.DeadlockLaws.{free_of_deadlock}
-use Rattle.fab_check.specs.First.{FindsFirst}
+use Rattle.fab_tables.specs.First.{FindsFirst}
+use Rattle.fab_tables.proofs.RouteFaults.{IsUnreached, unreached}
+use Rattle.fab_tables.proofs.StartFaults.{IsOfLid, of_lid}
 use Rattle.fab_check.specs.Free.{IsFreeOfDeadlock}
-use Rattle.fab_check.proofs.RouteFaults.{IsUnreached, unreached}
-use Rattle.fab_check.proofs.StartFaults.{IsOfLid, of_lid}
 
 -- the first fault is the verdict
 pub first_is_verdict : (t : Topology) (e : Entries) (lanes : Option LaneTables) (fault : Verdict) → IsFirst (IsFaultAt t e lanes) fault → IsVerdict t e lanes fault

@@ -1,19 +1,12 @@
 -- The hops of a terminal's route, one after the other.
-use Rattle.std.specs.Prelude.{◌≡◌, ℕ, ◌==◌, nat_le, Option, Some, None, if◌then◌else◌}
+use Rattle.std.specs.Prelude.{◌==◌, nat_le, Option, Some, None, if◌then◌else◌}
 use Rattle.fab_model.specs.declared.rows.Lid.{Lid}
 use Rattle.fab_model.specs.declared.rows.SwitchId.{SwitchId}
-use Rattle.fab_model.specs.Topology.{Topology}
-use Rattle.fab_model.specs.Connected.{IsConnectedTo}
 use Rattle.fab_tables.specs.declared.verdict.VirtualChannel.{VirtualChannel}
 use Rattle.fab_tables.specs.declared.verdict.Verdict.{Verdict}
 use Rattle.fab_tables.specs.declared.verdict.Verdict.TheVariants.{BadLane, NoNumber, NotRising}
-use Rattle.fab_tables.specs.Entries.{Entries}
-use Rattle.fab_tables.specs.Fit.{LanesFit}
-use Rattle.fab_tables.specs.LaneTables.{LaneTables, level}
+use Rattle.fab_tables.specs.LaneTables.{LaneTables}
 use Rattle.fab_tables.specs.Certified.{number_of}
-use Rattle.fab_check.specs.declared.starts.Start.{Start}
-use Rattle.fab_check.specs.Starts.{IsOfTerminal}
-use Rattle.fab_check.specs.Reaching.{IsToward}
 
 -- a hop's number is not above that of the hop before
 abbrev pub fault_after : LaneTables → Lid → SwitchId → Option VirtualChannel → VirtualChannel → Option Verdict
@@ -27,11 +20,3 @@ fault_of_hop l lid source tail before hop =
     if nat_le l.count hop.lane then Some (BadLane lid source tail) else
     if number_of l hop == 0 then Some (NoNumber lid source hop) else
     fault_after l lid source before hop
-
--- packets to the LID start there, and have this level
-pub record StartsAt (t : Topology) (e : Entries) (l : LaneTables) (lid : ℕ) (start : Start) (of_level : ℕ) : Type 0 where
-  pub toward : IsToward t e lid
-  pub lanes : LanesFit t l
-  pub terminal : IsOfTerminal t start
-  pub connected : IsConnectedTo t start.switch.0 lid
-  pub has_level : level l start.switch.0 lid ≡ Some of_level

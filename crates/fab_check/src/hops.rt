@@ -2,12 +2,12 @@
 ghost use Rattle.std.specs.Prelude.{◌≡◌, ◌<◌, ◌∷◌, [], IfSome};
 ghost use Rattle.fab_tables.specs.LaneTables.{AreLaneTables};
 ghost use Rattle.fab_tables.specs.Verdicts.{IsLaneFaultAt};
-ghost use Rattle.fab_check.specs.First.{FindsFirst, Beneath};
-ghost use Rattle.fab_check.specs.Hops.{fault_of_hop, StartsAt};
+ghost use Rattle.fab_tables.specs.First.{FindsFirst, Beneath};
+ghost use Rattle.fab_tables.specs.Starts.{StartsAt};
+ghost use Rattle.fab_check.specs.Hops.{fault_of_hop};
 
-use crate::starts::Start;
 use fab_model::{Fabric, Lid, SwitchId};
-use fab_tables::{Lanes, Tables, Verdict, VirtualChannel, follow};
+use fab_tables::{Lanes, Start, Tables, Verdict, VirtualChannel, follow};
 
 /// The first fault on the route from a start to a LID, for packets of this level.
 pub(crate) fn first_hop_fault(

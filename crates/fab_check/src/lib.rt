@@ -8,20 +8,14 @@ ghost use Rattle.fab_tables.specs.Certified.{Reaches, IsCertified};
 ghost use Rattle.fab_tables.specs.Verdicts.{IsVerdict};
 ghost use Rattle.fab_check.specs.Free.{IsFreeOfDeadlock};
 
-mod components;
 mod hops;
 mod lanes;
-mod reaching;
-mod starts;
 #[cfg(test)]
 mod tests;
 
-use crate::components::Components;
 use crate::lanes::first_lane_fault;
-use crate::reaching::first_unreached;
-use crate::starts::{Start, starts_of};
 use fab_model::Fabric;
-use fab_tables::{Plan, Verdict};
+use fab_tables::{Components, Plan, Start, Verdict, first_unreached, starts_of};
 use std::alloc::{AllocError, Global};
 use std::marker::Model;
 
@@ -39,7 +33,7 @@ pub struct Checker<'f> {
 impl<'f> Model for Checker<'f> {
     ghost use Rattle.std.specs.Prelude.{◌≡◌, length};
     ghost use Rattle.fab_model.specs.Topology.{Topology};
-    ghost use Rattle.fab_check.specs.Starts.{AreStarts};
+    ghost use Rattle.fab_tables.specs.Starts.{AreStarts};
 
     ghost Value = { Topology };
 

@@ -2,7 +2,7 @@ use Rattle.std.proofs.Common.{None, Option, subst}
 use Rattle.fab_model.specs.Topology.{Topology}
 use Rattle.fab_tables.specs.declared.verdict.Verdict.{Verdict}
 use Rattle.fab_tables.specs.Verdicts.{IsFaultAt, IsVerdict}
-use Rattle.fab_check.specs.First.{FindsFirst}
+use Rattle.fab_tables.specs.First.{FindsFirst}
 use Rattle.fab_check.proofs.Verdict.{route_is_verdict, routes_is_verdict, lanes_is_verdict, routes_exactly, lanes_exactly, lanes_free}
 use Rattle.fab_check.proofs.Checker.check.Goals as goal
 use Rattle.fab_check.proofs.Checker.check.Goals.{in-Some-default, in-None-None, in-None-Some}

@@ -1,8 +1,9 @@
 use Rattle.std.proofs.Common.{sym, ◌∙◌, ap}
 use Rattle.fab_tables.specs.Ahead.{Ahead}
-use Rattle.fab_check.proofs.LevelsLow.{level_low}
-use Rattle.fab_check.proofs.Ways.{channel_low}
-use Rattle.fab_check.proofs.HopFaults.{hop_low, tail_low, first_along, goes_along, none_along, starts_along, none_found}
+use Rattle.fab_tables.proofs.LevelsLow.{level_low}
+use Rattle.fab_tables.proofs.Ways.{channel_low}
+use Rattle.fab_tables.proofs.StartFaults.{none_found}
+use Rattle.fab_check.proofs.HopFaults.{hop_low, tail_low, first_along, goes_along, none_along, starts_along}
 use Rattle.fab_check.proofs.hops.first_hop_fault.Goals as goal
 
 pub loop-channel-init : goal.loop-channel-init

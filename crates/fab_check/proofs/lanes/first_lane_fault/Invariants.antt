@@ -3,7 +3,7 @@ use Rattle.std.proofs.Common.{◌≡◌, ◌<◌, ℕ, [], ◌∷◌, Some, None
 use Rattle.std.specs.Prelude.{slice_get}
 use Rattle.fab_model.specs.Topology.{lids_of}
 use Rattle.fab_tables.specs.Verdicts.{IsLaneFaultAt}
-use Rattle.fab_check.specs.First.{FindsFirst, Beneath}
+use Rattle.fab_tables.specs.First.{FindsFirst, Beneath}
 use Rattle.fab_check.proofs.lanes.first_lane_fault.Given as goal
 
 abbrev pub invariant-loop-index : goal.invariant-loop-index
