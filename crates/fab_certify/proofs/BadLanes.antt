@@ -12,12 +12,18 @@ use Rattle.fab_tables.specs.declared.verdict.Verdict.TheVariants.{Routes, Lanes,
 use Rattle.fab_tables.specs.Entries.{Entries}
 use Rattle.fab_tables.specs.LaneTables.{LaneTables}
 use Rattle.fab_tables.specs.Verdicts.{IsFirst, IsHop, Leaves}
-use Rattle.fab_certify.specs.declared.starts.Start.{Start}
-use Rattle.fab_certify.specs.First.{FindsFirst, Beneath}
-use Rattle.fab_certify.specs.Structural.{IsStructuralAt, StartsAt}
-use Rattle.fab_certify.proofs.Firsts.{none_beneath, first_beneath}
-use Rattle.fab_certify.proofs.RouteFaults.{none_before}
+use Rattle.fab_tables.specs.declared.starts.Start.{Start}
+use Rattle.fab_tables.specs.First.{FindsFirst, Beneath}
+use Rattle.fab_tables.specs.Starts.{StartsAt}
+use Rattle.fab_tables.proofs.Firsts.{none_beneath, first_beneath}
+use Rattle.fab_tables.proofs.RouteFaults.{none_before}
+use Rattle.fab_certify.specs.Structural.{IsStructuralAt}
+use Rattle.fab_tables.proofs.StartFaults.{IsLaneChoice}
 use Rattle.fab_certify.proofs.HopsAlong.{hops_from, hop_in, hop_of}
+
+-- the faults that no numbers can mend are a choice of the faults of lanes
+pub structural_faults : (t : Topology) (e : Entries) (l : LaneTables) → IsLaneChoice t e l (IsStructuralAt t e l)
+structural_faults t e l = record { fault = λ place fault f. f.1; elsewhere = λ place other fault f g. (f.0, g); level = λ place lid source f. (tt, f) }
 
 -- the hops that are passed have lanes below the count
 abbrev pub AreGood : Topology → Entries → LaneTables → Lid → Start → ℕ → ℕ → Type 0

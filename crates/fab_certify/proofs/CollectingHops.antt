@@ -4,8 +4,8 @@ use Rattle.std.specs.Prelude.{IfSome, slice_get}
 use Rattle.std.proofs.lemmas.Bool.{cases_lt}
 use Rattle.std.proofs.lemmas.Nat.{mul-add-lt}
 use Rattle.std.proofs.lemmas.Option.{same_Some, none-some}
-use Rattle.fab_model.specs.Connected.{IsConnectedTo}
 use Rattle.std.proofs.Math.Nat.{mul-le-mul_left}
+use Rattle.fab_model.specs.Connected.{IsConnectedTo}
 use Rattle.fab_model.specs.WellFormed.{IsFabric}
 use Rattle.fab_model.specs.declared.rows.Lid.{Lid}
 use Rattle.fab_model.specs.declared.rows.TerminalRow.{TerminalRow}
@@ -16,9 +16,9 @@ use Rattle.fab_tables.specs.LaneTables.{LaneTables}
 use Rattle.fab_tables.specs.VirtualChannels.{virtual_channels}
 use Rattle.fab_tables.specs.Dependencies.{IsPath, IsUsed, Depends, DependsByNode, node_of}
 use Rattle.fab_tables.proofs.CertifiedLaws.{contains_of}
-use Rattle.fab_certify.specs.declared.starts.Start.{Start}
+use Rattle.fab_tables.specs.declared.starts.Start.{Start}
+use Rattle.fab_tables.specs.Starts.{StartsAt}
 use Rattle.fab_certify.specs.Numbered.{IsSound}
-use Rattle.fab_certify.specs.Structural.{StartsAt}
 use Rattle.fab_certify.specs.Collected.{Collected, IsMarked, Grows, AddsHop, IsFromRoutes, HasHops, HasRoutes}
 use Rattle.fab_certify.proofs.HopsAlong.{hops_from, same_hops}
 

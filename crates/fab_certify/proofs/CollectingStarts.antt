@@ -19,11 +19,11 @@ use Rattle.fab_tables.specs.Dependencies.{IsPath, IsUsed, Depends, DependsByNode
 use Rattle.fab_tables.specs.Plain.{plain_channels}
 use Rattle.fab_tables.proofs.PlainLaws.{same_channels}
 use Rattle.fab_tables.proofs.CertifiedLaws.{get_of}
-use Rattle.fab_certify.specs.declared.starts.Start.{Start}
-use Rattle.fab_certify.specs.Starts.{start_of, IsOfTerminal, AreStarts}
+use Rattle.fab_tables.specs.declared.starts.Start.{Start}
+use Rattle.fab_tables.specs.Starts.{start_of, IsOfTerminal, AreStarts}
+use Rattle.fab_tables.proofs.Lids.{connected_in_use}
 use Rattle.fab_certify.specs.Numbered.{IsSound}
 use Rattle.fab_certify.specs.Collected.{Collected, IsMarked, Grows, IsFromRoutes, HasHops, HasRoutes, HasRoutesFor, AreDependencies}
-use Rattle.fab_certify.proofs.Lids.{connected_in_use}
 use Rattle.fab_certify.proofs.CollectingHops.{grows_none, grows_on}
 
 hops_grow : (count : ℕ) (hops : List VirtualChannel) (n : ℕ) (a b : Collected) → Grows a b → HasHops count hops n a → HasHops count hops n b

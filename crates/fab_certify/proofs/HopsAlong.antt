@@ -16,9 +16,9 @@ use Rattle.fab_tables.specs.LaneTables.{LaneTables, level, lane_at}
 use Rattle.fab_tables.specs.Route.{route}
 use Rattle.fab_tables.specs.VirtualChannels.{virtual_channel, virtual_channels, on_channels, at_level, hop_lane, arrival}
 use Rattle.fab_tables.specs.Verdicts.{IsHop, Leaves}
-use Rattle.fab_certify.specs.declared.starts.Start.{Start}
-use Rattle.fab_certify.specs.Structural.{StartsAt}
-use Rattle.fab_certify.proofs.Ways.{IsOnWay, drop_step, goes_on, channel_low}
+use Rattle.fab_tables.specs.declared.starts.Start.{Start}
+use Rattle.fab_tables.specs.Starts.{StartsAt}
+use Rattle.fab_tables.proofs.Ways.{IsOnWay, drop_step, goes_on, channel_low}
 
 -- the hops of the route from a start
 abbrev pub hops_from : Topology → Entries → LaneTables → Lid → Start → ℕ → List VirtualChannel

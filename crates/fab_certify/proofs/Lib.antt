@@ -10,19 +10,8 @@ pub mod ReachingTails
 pub mod ReachingLayers
 pub mod LeastAt
 pub mod RingSteps
-pub mod Walks
-pub mod Leaving
-pub mod Search
-pub mod Tips
-pub mod Lids
-pub mod Firsts
-pub mod Routes
-pub mod RouteFaults
-pub mod Ways
-pub mod LevelsLow
 pub mod HopsAlong
 pub mod BadLanes
-pub mod StartFaults
 pub mod HopChannels
 pub mod OneLane
 pub mod NumbersSet
@@ -30,7 +19,6 @@ pub mod Refusals
 pub mod HopsAdded
 pub mod CollectingHops
 pub mod CollectingStarts
-pub mod StartsSorted
 pub mod NumberedPlan
 pub mod Certificates
 pub mod Plainly

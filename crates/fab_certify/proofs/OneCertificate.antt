@@ -20,6 +20,8 @@ use Rattle.fab_tables.specs.VirtualChannels.{virtual_channel, at_level}
 use Rattle.fab_tables.specs.Dependencies.{IsUsed, Depends, DependsByNode, node_of}
 use Rattle.fab_tables.specs.Certified.{number_of}
 use Rattle.fab_tables.specs.Verdicts.{IsBefore, IsHop, Leaves, IsLaneFaultAt, IsFaultAt, IsStructural, IsRefusal}
+use Rattle.fab_tables.proofs.RouteFaults.{IsUnreached, unreached}
+use Rattle.fab_tables.proofs.StartFaults.{IsOfLid, of_lid}
 use Rattle.fab_certify.specs.declared.certified.Certified.{Certified}
 use Rattle.fab_certify.specs.declared.certified.Certified.TheVariants.{Numbers, Refused, RingUsed}
 use Rattle.fab_certify.specs.Structural.{IsStructuralAt}
@@ -29,8 +31,6 @@ use Rattle.fab_certify.specs.Laws.{OneCertificate}
 use Rattle.fab_certify.proofs.Numbering.{numbers_aside}
 use Rattle.fab_certify.proofs.Plainly.{refusal_is_unsound}
 use Rattle.fab_certify.proofs.Refusals.{either}
-use Rattle.fab_certify.proofs.RouteFaults.{IsUnreached, unreached}
-use Rattle.fab_certify.proofs.StartFaults.{IsOfLid, of_lid}
 use Rattle.fab_certify.proofs.SameLanes.{same_cells, same_lanes}
 use Rattle.fab_certify.proofs.ReadAlike.{renumbered, used_aside, used_back, same_depends, sound_aside, numbered_is_acyclic, ring_is_cyclic}
 
@@ -124,7 +124,7 @@ module _ (t : Topology) (e : Entries) (l : LaneTables) where
 
     -- those of the routes stand elsewhere
     apart : (v w : Verdict) → IsFaultAt t e None place v → IsStructuralAt t e l place w → ⊥
-    apart v w f g = let x : IsUnreached t e place = unreached t e place v f in let y : IsOfLid t e l place = of_lid t e l place w g in omega (arith, at 0 _ _ (sym x.2 ∙ y.3))
+    apart v w f g = let x : IsUnreached t e place = unreached t e place v f in let y : IsOfLid t e l place = of_lid t e l place w g.1 in omega (arith, at 0 _ _ (sym x.2 ∙ y.3))
 
     one_refused : (v w : Verdict) → IsStructural v × IsFaultAt t e (Some l) place v → IsStructural w × IsFaultAt t e (Some l) place w → v ≡ w
     one_refused v w f g = elim (either t e l place v f) [

@@ -19,10 +19,10 @@ use Rattle.fab_tables.proofs.LanesChange.{one_lane_changes}
 use Rattle.fab_tables.proofs.Cells.{one_level_changes}
 use Rattle.fab_tables.proofs.PlainLaws.{source_of, terminal_of}
 use Rattle.fab_tables.proofs.CertifiedLaws.{get_of}
-use Rattle.fab_certify.specs.declared.starts.Start.{Start}
-use Rattle.fab_certify.specs.Starts.{start_of, IsOfTerminal, AreStarts}
+use Rattle.fab_tables.specs.declared.starts.Start.{Start}
+use Rattle.fab_tables.specs.Starts.{start_of, IsOfTerminal, AreStarts}
+use Rattle.fab_tables.proofs.Lids.{connected_in_use}
 use Rattle.fab_certify.specs.OneLane.{IsMapping, IsLeveling, KeepsLevels, HasLevelsFor}
-use Rattle.fab_certify.proofs.Lids.{connected_in_use}
 
 -- in a list of one element each place has that element
 all_alike : {A : Type 0} (n i : ℕ) (x : A) → slice_index_or (replicate n x) i x ≡ x

@@ -17,12 +17,12 @@ use Rattle.fab_tables.specs.Certified.{Reaches}
 use Rattle.fab_tables.specs.Verdicts.{IsBefore, IsFirst, IsHop, IsLaneFaultAt, IsFaultAt, IsStructural, IsRefusal}
 use Rattle.fab_tables.proofs.CertifiedLaws.{get_of, routes_reaches}
 use Rattle.fab_tables.proofs.PlainLaws.{source_of}
-use Rattle.fab_certify.specs.First.{FindsFirst}
+use Rattle.fab_tables.specs.First.{FindsFirst}
+use Rattle.fab_tables.proofs.RouteFaults.{IsUnreached, unreached}
+use Rattle.fab_tables.proofs.StartFaults.{IsOfLid, of_lid}
 use Rattle.fab_certify.specs.Structural.{IsStructuralAt}
 use Rattle.fab_certify.specs.Numbered.{IsSound}
 use Rattle.fab_certify.proofs.HopChannels.{row_of}
-use Rattle.fab_certify.proofs.RouteFaults.{IsUnreached, unreached}
-use Rattle.fab_certify.proofs.StartFaults.{IsOfLid, of_lid}
 
 module _ (t : Topology) (e : Entries) (l : LaneTables) where
   -- what can be refused
@@ -65,7 +65,7 @@ module _ (t : Topology) (e : Entries) (l : LaneTables) where
   lane_later : (place earlier : List ℕ) (fault other : Verdict) → IsFaultAt t e None place fault → IsStructuralAt t e l earlier other → ¬ IsBefore earlier place
   lane_later place earlier fault other f g before =
       let x : IsUnreached t e place = unreached t e place fault f in
-      let y : IsOfLid t e l earlier = of_lid t e l earlier other g in
+      let y : IsOfLid t e l earlier = of_lid t e l earlier other g.1 in
       later 1 0 (y.0 ∷ y.1 ∷ y.2) (x.0 ∷ x.1 ∷ []) refl refl (subst (λ xs. IsBefore xs (0 ∷ x.0 ∷ x.1 ∷ [])) y.3 (subst (λ xs. IsBefore earlier xs) x.2 before))
 
   pub unreached_is_refusal : (fault : Verdict) → IsFirst (IsFaultAt t e None) fault → IsRefusal t e l fault

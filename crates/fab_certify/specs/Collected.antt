@@ -1,14 +1,14 @@
 -- The virtual channels that routes use, and their dependencies, by number, as they are collected route by route.
 use Rattle.std.specs.Prelude.{◌≡◌, ℕ, suc, ◌*◌, ◌<◌, ◌⊎◌, List, length, Bool, true, false, All, Contains, Option, Some, IfSome, slice_get, slice_index_or}
 use Rattle.fab_model.specs.Topology.{Topology}
+use Rattle.fab_model.specs.declared.rows.TerminalRow.{TerminalRow}
 use Rattle.fab_tables.specs.declared.verdict.VirtualChannel.{VirtualChannel}
 use Rattle.fab_tables.specs.Entries.{Entries}
 use Rattle.fab_tables.specs.LaneTables.{LaneTables}
 use Rattle.fab_tables.specs.VirtualChannels.{virtual_channels}
 use Rattle.fab_tables.specs.Dependencies.{IsPath, IsUsed, DependsByNode, node_of}
-use Rattle.fab_model.specs.declared.rows.TerminalRow.{TerminalRow}
-use Rattle.fab_certify.specs.declared.starts.Start.{Start}
-use Rattle.fab_certify.specs.Starts.{start_of}
+use Rattle.fab_tables.specs.declared.starts.Start.{Start}
+use Rattle.fab_tables.specs.Starts.{start_of}
 
 pub record Collected : Type 0 where
   pub used : List Bool  -- for each number whether its virtual channel is used

@@ -6,11 +6,6 @@ pub mod Numbered
 pub mod Certificate
 pub mod EnginePlans
 pub mod Laws
-pub mod Components
-pub mod Searching
-pub mod Reaching
-pub mod Starts
-pub mod First
 pub mod Structural
 pub mod Collected
 pub mod Numbers

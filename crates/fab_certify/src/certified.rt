@@ -4,22 +4,19 @@ ghost use Rattle.fab_tables.specs.Fit.{EntriesFit, LanesFit, PlanFits, IsTidy};
 ghost use Rattle.fab_tables.specs.Dependencies.{AreReadLanes};
 ghost use Rattle.fab_tables.specs.Verdicts.{IsRefusal};
 ghost use Rattle.fab_tables.specs.Certified.{IsCertified};
+ghost use Rattle.fab_tables.specs.Starts.{AreStarts};
 ghost use Rattle.fab_certify.specs.Numbered.{IsSound};
-ghost use Rattle.fab_certify.specs.Starts.{AreStarts};
 ghost use Rattle.fab_certify.specs.Certificate.{IsCertificate, IsCertificateBy, HasNoPair, IsPlainCertificate};
 
 use crate::collecting::collect;
-use crate::components::Components;
 use crate::lanes::first_lane_fault;
 use crate::layers::levels;
 use crate::numbers::set_numbers;
 use crate::one_lane::one_lane;
-use crate::reaching::first_unreached;
 use crate::ring::Ring;
 use crate::rings::first_ring;
-use crate::starts::{Start, starts_of};
 use fab_model::Fabric;
-use fab_tables::{Lanes, Plan, Tables, Verdict};
+use fab_tables::{Components, Lanes, Plan, Start, Tables, Verdict, first_unreached, starts_of};
 use std::alloc::{AllocError, Global};
 
 /// What certifying a plan answers.

@@ -3,17 +3,14 @@ ghost use Rattle.std.specs.Prelude.{◌≡◌, ◌+◌, ◌*◌, ◌<◌, ◌^�
 ghost use Rattle.fab_model.specs.Connected.{IsConnectedTo};
 ghost use Rattle.fab_tables.specs.Fit.{EntriesFit, LanesFit};
 ghost use Rattle.fab_tables.specs.Dependencies.{node_of as number_by_lane};
+ghost use Rattle.fab_tables.specs.Reaching.{IsToward};
+ghost use Rattle.fab_tables.specs.Starts.{StartsAt, AreStarts, IsOfTerminal};
 ghost use Rattle.fab_certify.specs.Numbered.{IsSound};
-ghost use Rattle.fab_certify.specs.Reaching.{IsToward};
-ghost use Rattle.fab_certify.specs.Structural.{StartsAt};
-ghost use Rattle.fab_certify.specs.Starts.{AreStarts, IsOfTerminal};
 ghost use Rattle.fab_certify.specs.Collected.{Grows, IsFromRoutes, HasRoutes, HasRoutesFor, AreDependencies};
 
-use crate::components::Components;
 use crate::dependencies::Dependencies;
-use crate::starts::Start;
 use fab_model::{Fabric, Lid};
-use fab_tables::{Lanes, Tables, VirtualChannel, follow};
+use fab_tables::{Components, Lanes, Start, Tables, VirtualChannel, follow};
 use std::alloc::{AllocError, Global};
 
 /// Collects the virtual channels that the routes of a plan use, and their dependencies. Their numbers are

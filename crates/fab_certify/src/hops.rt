@@ -1,11 +1,11 @@
 // The hops of a terminal's route, and their lanes.
 ghost use Rattle.std.specs.Prelude.{◌∷◌, []};
-ghost use Rattle.fab_certify.specs.First.{FindsFirst, Beneath};
-ghost use Rattle.fab_certify.specs.Structural.{IsStructuralAt, StartsAt};
+ghost use Rattle.fab_tables.specs.First.{FindsFirst, Beneath};
+ghost use Rattle.fab_tables.specs.Starts.{StartsAt};
+ghost use Rattle.fab_certify.specs.Structural.{IsStructuralAt};
 
-use crate::starts::Start;
 use fab_model::{Fabric, Lid};
-use fab_tables::{Lanes, Tables, Verdict, follow};
+use fab_tables::{Lanes, Start, Tables, Verdict, follow};
 
 /// The first lane on the route from a start to a LID that isn't below the lane count, for packets of this
 /// level.

@@ -3,16 +3,14 @@ ghost use Rattle.std.specs.Prelude.{◌≡◌, ◌<◌, ◌∷◌, [], None, Som
 ghost use Rattle.fab_model.specs.Connected.{IsConnectedTo};
 ghost use Rattle.fab_tables.specs.Fit.{EntriesFit, LanesFit};
 ghost use Rattle.fab_tables.specs.LaneTables.{level as level_of};
-ghost use Rattle.fab_certify.specs.First.{FindsFirst, Beneath};
-ghost use Rattle.fab_certify.specs.Reaching.{IsToward};
+ghost use Rattle.fab_tables.specs.First.{FindsFirst, Beneath};
+ghost use Rattle.fab_tables.specs.Reaching.{IsToward};
+ghost use Rattle.fab_tables.specs.Starts.{AreStarts, IsOfTerminal};
 ghost use Rattle.fab_certify.specs.Structural.{IsStructuralAt};
-ghost use Rattle.fab_certify.specs.Starts.{AreStarts, IsOfTerminal};
 
-use crate::components::Components;
 use crate::hops::first_bad_lane;
-use crate::starts::Start;
 use fab_model::{Fabric, Lid};
-use fab_tables::{Lanes, Tables, Verdict};
+use fab_tables::{Components, Lanes, Start, Tables, Verdict};
 
 /// The first fault of a plan's lanes that no numbers can mend, by LID and then by source connected to it.
 pub(crate) fn first_lane_fault(

@@ -3,7 +3,6 @@
 
 mod certified;
 mod collecting;
-mod components;
 mod dependencies;
 mod graph;
 mod hops;
@@ -14,10 +13,8 @@ mod nearness;
 mod neighbours;
 mod numbers;
 mod one_lane;
-mod reaching;
 mod ring;
 mod rings;
-mod starts;
 
 pub use certified::{Certified, certify};
 pub use graph::Graph;

@@ -3,13 +3,11 @@ ghost use Rattle.std.specs.Prelude.{◌≡◌, IfOk, length, Contains};
 ghost use Rattle.fab_model.specs.WellFormed.{IsFabric};
 ghost use Rattle.fab_model.specs.Topology.{lids_of};
 ghost use Rattle.fab_tables.specs.Dependencies.{IsOneLane};
-ghost use Rattle.fab_certify.specs.Starts.{AreStarts};
+ghost use Rattle.fab_tables.specs.Starts.{AreStarts};
 ghost use Rattle.fab_certify.specs.OneLane.{IsMapping, IsLeveling, KeepsLevels, HasLevelsFor};
 
-use crate::components::Components;
-use crate::starts::Start;
 use fab_model::{Fabric, Lid, SwitchId};
-use fab_tables::Lanes;
+use fab_tables::{Components, Lanes, Start};
 use std::alloc::{AllocError, Global};
 
 /// One lane: each switch puts level 0 on lane 0, and each source has level 0 for each LID connected to it.

@@ -4,9 +4,9 @@ use Rattle.std.proofs.lemmas.Result.{IfOk-weaker}
 use Rattle.fab_tables.specs.declared.plan.Plan.{Plan}
 use Rattle.fab_tables.specs.Fit.{IsTidy}
 use Rattle.fab_tables.specs.Certified.{IsCertified}
-use Rattle.fab_certify.specs.Numbered.{IsSound}
 use Rattle.fab_tables.specs.Dependencies.{AreReadLanes}
 use Rattle.fab_tables.specs.Verdicts.{IsRefusal}
+use Rattle.fab_certify.specs.Numbered.{IsSound}
 use Rattle.fab_certify.specs.declared.certified.Certified.TheVariants.{Refused, Numbers}
 use Rattle.fab_certify.specs.Certificate.{IsCertificate, HasNoPair, IsPlainCertificate}
 use Rattle.fab_certify.proofs.Certificates.{certificate_by, certificate_certified, certificate_tidy}

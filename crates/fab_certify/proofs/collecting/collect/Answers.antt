@@ -1,8 +1,7 @@
 use Rattle.std.proofs.Common.{◌≡◌, ◌*◌, slice_get, option_map, inl, inr, refl, sym, ◌∙◌, ap, arith, length, replicate, false, Bool}
 use Rattle.std.proofs.lemmas.Bool.{cases_lt}
 use Rattle.fab_model.specs.Topology.{lids_of, lid_id}
-use Rattle.fab_tables.proofs.Ascending.{lid_in_use}
-use Rattle.fab_certify.proofs.Lids.{lid_read}
+use Rattle.fab_tables.proofs.Ascending.{lid_in_use, lid_read}
 use Rattle.fab_certify.proofs.CollectingStarts.{from_no_routes, one_lid_more, are_dependencies}
 use Rattle.fab_certify.proofs.collecting.collect.Goals as goal
 use Rattle.fab_certify.proofs.collecting.collect.Goals.{in-Some+in_ok-collect_for, in_default}

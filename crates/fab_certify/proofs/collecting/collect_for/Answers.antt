@@ -7,10 +7,10 @@ use Rattle.fab_model.specs.Topology.{Topology, place_of}
 use Rattle.fab_model.specs.Connected.{AreConnected}
 use Rattle.fab_model.specs.WellFormed.{IsFabric}
 use Rattle.fab_tables.proofs.FallingRoutes.{place_below}
-use Rattle.fab_certify.specs.declared.starts.Start.{Start}
-use Rattle.fab_certify.specs.Starts.{IsOfTerminal, AreStarts}
-use Rattle.fab_certify.proofs.RouteFaults.{apart_by}
-use Rattle.fab_certify.proofs.StartFaults.{same_option}
+use Rattle.fab_tables.specs.declared.starts.Start.{Start}
+use Rattle.fab_tables.specs.Starts.{IsOfTerminal, AreStarts}
+use Rattle.fab_tables.proofs.RouteFaults.{apart_by}
+use Rattle.fab_tables.proofs.StartFaults.{same_option}
 use Rattle.fab_certify.proofs.CollectingStarts.{routes_apart, collected_more, collected_alike, collected_same, has_again, has_all}
 use Rattle.fab_certify.proofs.collecting.collect_for.Goals as goal
 use Rattle.fab_certify.proofs.collecting.collect_for.Goals.{then-ne+then-are_connected+in_ok-collect_from+then-pairs-eq0, then-ne+then-are_connected+in_ok-collect_from+else-pairs-eq0, else-ne, else-ne-via-then-ne+else-are_connected, else-ne-via-else-ne}

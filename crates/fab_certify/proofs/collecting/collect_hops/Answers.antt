@@ -3,9 +3,9 @@ use Rattle.fab_tables.specs.declared.verdict.VirtualChannel.{VirtualChannel}
 use Rattle.fab_tables.specs.Ahead.{Ahead}
 use Rattle.fab_tables.specs.Route.{route}
 use Rattle.fab_tables.specs.Dependencies.{node_of}
+use Rattle.fab_tables.proofs.LevelsLow.{level_low}
+use Rattle.fab_tables.proofs.Ways.{channel_low}
 use Rattle.fab_certify.specs.Collected.{AddsHop}
-use Rattle.fab_certify.proofs.LevelsLow.{level_low}
-use Rattle.fab_certify.proofs.Ways.{channel_low}
 use Rattle.fab_certify.proofs.HopsAlong.{hops_from, starts_along, none_passed, tail_low, next_hop, goes_along, one_more_passed, all_passed}
 use Rattle.fab_certify.proofs.CollectingHops.{IsCollecting, begins, node_low, node_fits, lane_low, collects_hop, has_routes}
 use Rattle.fab_certify.proofs.collecting.collect_hops.Goals as goal

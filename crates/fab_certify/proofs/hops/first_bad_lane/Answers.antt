@@ -2,8 +2,8 @@ use Rattle.std.proofs.Common.{◌≡◌, ◌∙◌, sym, ap, subst, arith}
 use Rattle.fab_tables.specs.declared.verdict.VirtualChannel.{VirtualChannel}
 use Rattle.fab_tables.specs.Ahead.{Ahead}
 use Rattle.fab_tables.specs.Route.{route}
-use Rattle.fab_certify.proofs.LevelsLow.{level_low}
-use Rattle.fab_certify.proofs.Ways.{channel_low}
+use Rattle.fab_tables.proofs.LevelsLow.{level_low}
+use Rattle.fab_tables.proofs.Ways.{channel_low}
 use Rattle.fab_certify.proofs.HopsAlong.{starts_along, none_passed, tail_low, next_hop, goes_along, one_more_passed, leaves, all_passed}
 use Rattle.fab_certify.proofs.BadLanes.{AreGood, none_bad, first_bad, one_more_good}
 use Rattle.fab_certify.proofs.hops.first_bad_lane.Goals as goal

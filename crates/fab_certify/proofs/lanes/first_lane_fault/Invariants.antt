@@ -2,8 +2,8 @@
 use Rattle.std.proofs.Common.{◌≡◌, ◌<◌, ℕ, [], ◌∷◌, Some, None}
 use Rattle.std.specs.Prelude.{slice_get}
 use Rattle.fab_model.specs.Topology.{lids_of}
+use Rattle.fab_tables.specs.First.{FindsFirst, Beneath}
 use Rattle.fab_certify.specs.Structural.{IsStructuralAt}
-use Rattle.fab_certify.specs.First.{FindsFirst, Beneath}
 use Rattle.fab_certify.proofs.lanes.first_lane_fault.Given as goal
 
 abbrev pub invariant-loop-index : goal.invariant-loop-index

@@ -1,7 +1,7 @@
 use Rattle.std.proofs.Common.{◌≡◌, slice_get, option_map, sym, ◌∙◌, ap, inl, inr, arith}
 use Rattle.std.proofs.lemmas.Bool.{cases_lt}
 use Rattle.fab_model.specs.Topology.{lids_of, lid_id}
-use Rattle.fab_certify.proofs.Lids.{lid_read}
+use Rattle.fab_tables.proofs.Ascending.{lid_read}
 use Rattle.fab_certify.proofs.OneLane.{leveling_begins, one_lid_leveled, is_one_lane}
 use Rattle.fab_certify.proofs.one_lane.one_lane.Goals as goal
 use Rattle.fab_certify.proofs.one_lane.one_lane.Goals.{in-Some, in_default}
