@@ -174,7 +174,7 @@ fn with_line(alloc: Global, text: &[u8], number: usize, line: &[u8]) -> Result<V
     for old in text.split(|byte| *byte == b'\n') {
         new.extend_from_slice(if at == number { line } else { old })?;
         new.push(b'\n')?;
-        at += 1;
+        at = at.saturating_add(1);
     }
     Ok(new)
 }
