@@ -1,5 +1,6 @@
 pub mod LineWords
 pub mod OneLine
+pub mod RecordsRead
 pub mod Quotes
 pub mod OwnCables
 pub mod OnAdapters

@@ -171,8 +171,11 @@ of_parts (part ∷ next ∷ parts) h =
     All-cons HasNoLineFeed _ _ (stripped (slice_index part (length part - 1) == 13) part (All-head HasNoLineFeed part (next ∷ parts) h))
     (of_parts (next ∷ parts) (All-tail HasNoLineFeed part (next ∷ parts) h))
 
+pub all_are_lines : (text : List ℕ) → All HasNoLineFeed (lines text)
+all_are_lines text = of_parts _ (parts_are_lines text)
+
 first_is_line : (bytes : List ℕ) {line : List ℕ} {others : List (List ℕ)} → lines bytes ≡ line ∷ others → HasNoLineFeed line
-first_is_line bytes {line} {others} e = All-head HasNoLineFeed line others (subst (All HasNoLineFeed) e (of_parts _ (parts_are_lines bytes)))
+first_is_line bytes {line} {others} e = All-head HasNoLineFeed line others (subst (All HasNoLineFeed) e (all_are_lines bytes))
 
 pub line_is_line : (text : List ℕ) (from : ℕ) (line : Line) → line_at text from ≡ Some line → HasNoLineFeed (slice_range text line.start line.end)
 line_is_line text from line e = first_is_line (drop from text) (line_first text from line e)

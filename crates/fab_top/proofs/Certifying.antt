@@ -13,11 +13,12 @@ use Rattle.fab_dump.proofs.RoundText.{written_is_read}
 use Rattle.fab_certify.specs.declared.certified.Certified.{Certified}
 use Rattle.fab_certify.specs.declared.certified.Certified.TheVariants.{Numbers, Refused, RingUsed}
 use Rattle.fab_certify.specs.Certificate.{IsCertificate}
+use Rattle.fab_certify.proofs.Certificates.{certificate_certified, certificate_fits, certificate_tidy}
 use Rattle.fab_certify.proofs.Plainly.{refusal_is_unsound}
 use Rattle.fab_certify.proofs.ReadAlike.{sound_alike, acyclic_alike, numbered_is_acyclic, ring_is_cyclic}
 use Rattle.fab_top.specs.declared.outcome.Outcome.{Outcome}
 use Rattle.fab_top.specs.Answer.{Answer, done, no}
-use Rattle.fab_top.specs.Answers.{IsCertifyAnswer, IsPlanText, lane_count}
+use Rattle.fab_top.specs.Answers.{IsCertifyAnswer, IsPlanText, certified_answer, lane_count}
 use Rattle.fab_top.specs.Headline.{Done, CanBeCertified, CertifiesTruly, ConvertsTruly, IsReadAgain}
 use Rattle.fab_top.specs.Outcomes.{Answers, CanBePut, answer_of}
 use Rattle.fab_top.specs.Texts.{HasShortLanes, verdict_text, ring_text}
@@ -53,15 +54,46 @@ read_again : (t : Topology) (p : Plan) (a : Answer) → IsFabric t → PlanFits 
 read_again t p a fabric fits tidy is =
     let P : Answer → Type 0 = λ b. IsReadAgain t p b.out in subst P (sym is) (written_is_read t p fabric fits tidy)
 
+-- ---- what answers keep
+
+-- a no keeps what is promised where no numbers certify the plan
+no_keeps : (t : Topology) (p : Plan) (text : List ℕ) (a : Answer) → ¬ CanBeCertified t p → a ≡ no text → CertifiesTruly t p a
+no_keeps t p text a can_not is = record {
+  done = (λ all. absurd (not_done text a is all), λ can. absurd (can_not can));
+  certified = λ all. absurd (not_done text a is all);
+}
+
+numbers_keep : (t : Topology) (p new : Plan) (a : Answer) → IsFabric t → IsCertificate t p (Numbers new) → IsCertified t new → PlanFits t new → IsTidy t new → a ≡ done (plan_text t new) → CertifiesTruly t p a
+numbers_keep t p new a fabric is certified fits tidy told = record {
+  done = (λ all. can_be t p new is, λ can. is_done _ a told);
+  certified = λ all. (new, read_again t new a fabric fits tidy told, certified);
+}
+
+pub certificate_keeps : (t : Topology) (p : Plan) (c : Certified) (a : Answer) → IsFabric t → PlanFits t p → IsTidy t p → IsCertificate t p c → a ≡ certified_answer t p c → CertifiesTruly t p a
+certificate_keeps t p (Numbers new) a fabric fits tidy is told =
+    numbers_keep t p new a fabric is (certificate_certified t p new is) (certificate_fits t p new is fits) (certificate_tidy t p new is tidy) told
+certificate_keeps t p (Refused fault) a fabric fits tidy is told = no_keeps t p _ a (refused_can_not t p fault is) told
+certificate_keeps t p (RingUsed ring) a fabric fits tidy is told = no_keeps t p _ a (ring_can_not t p ring is) told
+
+pub certificate_is_small : (t : Topology) (p : Plan) (c : Certified) (a : Answer) → a ≡ certified_answer t p c → a.status ≤ 1
+certificate_is_small t p (Numbers new) a told = status_of_done _ a told
+certificate_is_small t p (Refused fault) a told = status_of_no _ a told
+certificate_is_small t p (RingUsed ring) a told = status_of_no _ a told
+
+pub plan_keeps : (t : Topology) (p : Plan) (a : Answer) → IsFabric t → PlanFits t p → IsTidy t p → a ≡ done (plan_text t p) → ConvertsTruly t p a
+plan_keeps t p a fabric fits tidy told = (is_done _ a told, read_again t p a fabric fits tidy told)
+
+pub plan_is_small : (t : Topology) (p : Plan) (a : Answer) → a ≡ done (plan_text t p) → a.status ≤ 1
+plan_is_small t p a told = status_of_done _ a told
+
+-- ---- as outcomes
+
 -- a no that is told
 no_answer : (t : Topology) (p : Plan) (text : List ℕ) (outcome : Outcome) → ¬ CanBeCertified t p → answer_of outcome ≡ no text → CanBePut outcome → IsCertifyAnswer t p (answer_of outcome) →
     Answers IsCertifyAnswer CertifiesTruly t p outcome
 no_answer t p text outcome can_not is put answer = record {
   is = answer;
-  headline = record {
-    done = (λ all. absurd (not_done text _ is all), λ can. absurd (can_not can));
-    certified = λ all. absurd (not_done text _ is all);
-  };
+  headline = no_keeps t p text _ can_not is;
   status = status_of_no text _ is;
   can_be_put = put;
 }
@@ -81,10 +113,7 @@ pub numbers_answer : (t : Topology) (p new : Plan) (outcome : Outcome) → IsFab
     answer_of outcome ≡ done (plan_text t new) → CanBePut outcome → Answers IsCertifyAnswer CertifiesTruly t p outcome
 numbers_answer t p new outcome fabric is certified fits tidy told put = record {
   is = (Numbers new, is, told);
-  headline = record {
-    done = (λ all. can_be t p new is, λ can. is_done _ _ told);
-    certified = λ all. (new, read_again t new _ fabric fits tidy told, certified);
-  };
+  headline = numbers_keep t p new _ fabric is certified fits tidy told;
   status = status_of_done _ _ told;
   can_be_put = put;
 }
@@ -94,7 +123,7 @@ pub plan_answer : (t : Topology) (p : Plan) (outcome : Outcome) → IsFabric t �
     Answers IsPlanText ConvertsTruly t p outcome
 plan_answer t p outcome fabric fits tidy told put = record {
   is = told;
-  headline = (is_done _ _ told, read_again t p _ fabric fits tidy told);
+  headline = plan_keeps t p _ fabric fits tidy told;
   status = status_of_done _ _ told;
   can_be_put = put;
 }

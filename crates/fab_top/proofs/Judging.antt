@@ -27,7 +27,7 @@ use Rattle.fab_tables.proofs.DeadlockLaws as deadlock
 use Rattle.fab_check.specs.Free.{IsFreeOfDeadlock}
 use Rattle.fab_top.specs.declared.outcome.Outcome.{Outcome}
 use Rattle.fab_top.specs.Answer.{Answer}
-use Rattle.fab_top.specs.Answers.{IsCheckAnswer, told_answer}
+use Rattle.fab_top.specs.Answers.{IsCheckAnswer, told_answer, verdict_answer}
 use Rattle.fab_top.specs.Headline.{ChecksTruly, IsSafe, FollowsWell}
 use Rattle.fab_top.specs.Outcomes.{Answers, CanBePut, IsTrueVerdict, answer_of}
 use Rattle.fab_top.specs.Texts.{HasShortLanes, verdict_text, ok_routes, ok_lanes}
@@ -181,15 +181,20 @@ true_verdict t p v fabric is =
       safe = λ e. is_safe t p fabric ((lanes_is_certified t p).0 (subst P e is));
     }
 
+-- an answer that tells a verdict keeps what is promised of it
+pub verdict_keeps : (t : Topology) (p : Plan) (v : Verdict) (a : Answer) → IsTrueVerdict t p v → a ≡ verdict_answer t v → ChecksTruly t p a
+verdict_keeps t p v a true_of is = subst (ChecksTruly t p) (sym is) (tells t p v true_of)
+
+pub verdict_is_small : (t : Topology) (v : Verdict) (a : Answer) → a ≡ verdict_answer t v → a.status ≤ 1
+verdict_is_small t v a is = let P : Answer → Type 0 = λ b. b.status ≤ 1 in subst P (sym is) (is_small t v)
+
 pub judged : (t : Topology) (p : Plan) (v : Verdict) (text : List ℕ) (outcome : Outcome) → IsTrueVerdict t p v → text ≡ verdict_text t v →
     answer_of outcome ≡ told_answer v text → CanBePut outcome → Answers IsCheckAnswer ChecksTruly t p outcome
 judged t p v text outcome true_of is_text is put =
-    let answer : answer_of outcome ≡ told_answer v (verdict_text t v) = is ∙ ap (λ x. told_answer v x) is_text in
-    let P : Answer → Type 0 = λ a. ChecksTruly t p a in
-    let Q : Answer → Type 0 = λ a. a.status ≤ 1 in
+    let answer : answer_of outcome ≡ verdict_answer t v = is ∙ ap (λ x. told_answer v x) is_text in
     record {
       is = (v, true_of.is, answer);
-      headline = subst P (sym answer) (tells t p v true_of);
-      status = subst Q (sym answer) (is_small t v);
+      headline = verdict_keeps t p v _ true_of answer;
+      status = verdict_is_small t v _ answer;
       can_be_put = put;
     }

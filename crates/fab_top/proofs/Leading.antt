@@ -59,10 +59,10 @@ led_to_refusal {A} {H} command words told before now fabric plan text outcome on
   counts = found.1;
 }
 
-first_of_two : (a b : ℕ) → Contains (a ∷ b ∷ []) a
+pub first_of_two : (a b : ℕ) → Contains (a ∷ b ∷ []) a
 first_of_two a b = grind arith
 
-second_of_two : (a b : ℕ) → Contains (a ∷ b ∷ []) b
+pub second_of_two : (a b : ℕ) → Contains (a ∷ b ∷ []) b
 second_of_two a b = grind arith
 
 unread_is_named : (words : List (List ℕ)) (told : List ℕ → Option (List ℕ)) (before now : List ℕ → ℕ) (fabric plan place : ℕ) →

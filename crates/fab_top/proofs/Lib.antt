@@ -6,3 +6,5 @@ pub mod Judging
 pub mod Taking
 pub mod Certifying
 pub mod Wording
+pub mod ReadFits
+pub mod Answering

@@ -5,6 +5,7 @@ mod command;
 mod commands;
 mod fault_texts;
 mod files;
+mod laws;
 mod outcome;
 mod outputs;
 #[cfg(test)]
@@ -16,5 +17,6 @@ mod top_call;
 mod words;
 
 pub use command::Command;
+pub use laws::{answers_keep_headline, one_answer, status_is_small};
 pub use top_call::run;
 pub use words::{WordsFault, read_words};

@@ -1,0 +1,16 @@
+ghost use Rattle.fab_top.specs.Laws.{OneAnswer, AnswersKeepHeadline, StatusIsSmall};
+
+/// Words and the contents of the files that they name have one answer.
+pub fn one_answer()
+    ensures { OneAnswer }
+{}
+
+/// An answer keeps what the program promises.
+pub fn answers_keep_headline()
+    ensures { AnswersKeepHeadline }
+{}
+
+/// Where the content of each file is told, the status is at most 3.
+pub fn status_is_small()
+    ensures { StatusIsSmall }
+{}
