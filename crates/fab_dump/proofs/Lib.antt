@@ -49,3 +49,6 @@ pub mod RoundBlocks
 pub mod RoundMaps
 pub mod RoundNumbers
 pub mod RoundText
+pub mod LineLengths
+pub mod BlockLengths
+pub mod PlanLengths

@@ -244,7 +244,7 @@ module _ (t : Topology) (fabric : IsFabric t) where
       (one_line_is (lanes_text (general_map l s.0)) (plain_line (lanes_text (general_map l s.0)) (lanes_plain (general_map l s.0)))))
       (All-map IsLine pair_text (filter (is_of_switch s.0) l.pairs) (λ k d h. plain_line (pair_text (get_or (filter (is_of_switch s.0) l.pairs) k d)) (pair_plain (get_or (filter (is_of_switch s.0) l.pairs) k d))))
 
-  number_fits : (l : LaneTables) → All (λ n. n < 2 ^ 32) l.numbers → (c on_lane : ℕ) → number l c on_lane < 2 ^ 32
+  pub number_fits : (l : LaneTables) → All (λ n. n < 2 ^ 32) l.numbers → (c on_lane : ℕ) → number l c on_lane < 2 ^ 32
   number_fits l few c on_lane = cond_both (nat_lt on_lane 15) (slice_index_or l.numbers (cell 15 c on_lane) 0) 0 (λ n. n < 2 ^ 32) (λ e. all_or (λ n. n < 2 ^ 32) l.numbers (cell 15 c on_lane) 0 few (omega arith)) (λ e. omega arith)
 
   numbers_are : (l : LaneTables) → All (λ n. n < 2 ^ 32) l.numbers → (c : ℕ × ChannelRow) → All IsLine (number_lines t l c)

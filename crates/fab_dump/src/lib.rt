@@ -22,6 +22,6 @@ mod write_blocks;
 mod write_tests;
 
 pub use fault::PlanFault;
-pub use laws::{read_is_tidy, written_is_read};
+pub use laws::{read_is_tidy, written_is_read, written_is_short};
 pub use read::read_plan;
 pub use write::{WriteFault, write_plan};

@@ -1,0 +1,5 @@
+use Rattle.fab_dump.proofs.PlanLengths.{written_is_short}
+use Rattle.fab_dump.proofs.laws.written_is_short.Goals as goal
+
+pub returns : goal.returns
+returns c = written_is_short
