@@ -10,13 +10,13 @@ use Rattle.fab_tables.specs.Dependencies.{AreReadLanes, Depends}
 use Rattle.fab_tables.specs.Entries.{Entries}
 use Rattle.fab_tables.specs.LaneTables.{LaneTables}
 use Rattle.fab_tables.specs.Route.{route, visited, HasRepeat}
-use Rattle.fab_dump.specs.Reading.{plan_of}
 use Rattle.fab_check.specs.Free.{IsFreeOfDeadlock}
 use Rattle.fab_certify.specs.Numbered.{IsSound}
 use Rattle.fab_top.specs.declared.command.Command.{Command}
 use Rattle.fab_top.specs.declared.command.Command.TheVariants.{Check, Certify, Convert}
 use Rattle.fab_top.specs.Words.{command_of}
 use Rattle.fab_top.specs.Answer.{Answer}
+use Rattle.fab_top.specs.Files.{plan_in}
 use Rattle.fab_top.specs.Texts.{ok_routes, ok_lanes}
 use Rattle.fab_top.specs.Seen.{Seen, WithBoth}
 
@@ -50,11 +50,11 @@ Done answer = answer.status ≡ 0
 abbrev pub CanBeCertified : Topology → Plan → Type 0
 CanBeCertified t p = (l : LaneTables) × AreReadLanes t p.lanes l × IsSound t p.tables l × IsAcyclic (Depends t p.tables l)
 
--- the text, read again, is this plan
+-- the text, in a file of any name, is taken as this plan
 abbrev pub IsReadAgain : Topology → Plan → List ℕ → Type 0
-IsReadAgain t p text = plan_of t text ≡ Ok p
+IsReadAgain t p text = (name : List ℕ) → plan_in t name text ≡ Ok p
 
--- the text, read again, is a certified plan: one that the check answers ok with lanes
+-- the text, in a file of any name, is taken as a certified plan: one that the check answers ok with lanes
 abbrev pub IsCertifiedAgain : Topology → List ℕ → Type 0
 IsCertifiedAgain t text = (p : Plan) × IsReadAgain t p text × IsCertified t p
 
