@@ -1,5 +1,5 @@
 -- Words that no command has.
-use Rattle.std.proofs.Common.{◌≡◌, ℕ, ◌<◌, Bool, true, false, List, [], ◌∷◌, length, Option, None, Some, String, refl, subst, sym, ◌∙◌, ap, arith, inl, inr, codes, slice_index_or, Ok, Err, ◌++◌}
+use Rattle.std.proofs.Common.{◌≡◌, ℕ, ◌<◌, Bool, true, false, List, [], ◌∷◌, length, Option, None, Some, String, refl, subst, sym, ◌∙◌, ap, arith, codes, slice_index_or, Err}
 use Rattle.std.specs.Prelude.{option_map, option_and_then, find, if◌then◌else◌}
 use Rattle.std.specs.Str.{bytes_eq}
 use Rattle.std.specs.String.{string_bytes}

@@ -1,5 +1,5 @@
 -- The texts of what is wrong with a file, or with what was named.
-use Rattle.std.specs.Prelude.{ℕ, ◌+◌, List, [], ◌++◌, codes, decimal}
+use Rattle.std.specs.Prelude.{ℕ, List, [], ◌++◌, codes, decimal}
 use Rattle.fab_model.specs.declared.fault.FabricFault.{FabricFault}
 use Rattle.fab_model.specs.declared.fault.FabricFault.TheVariants as build
 use Rattle.fab_netdiscover.specs.declared.fault.ReadFault.{ReadFault}
@@ -8,7 +8,6 @@ use Rattle.fab_netdiscover.specs.declared.fault.BadKind.{BadKind}
 use Rattle.fab_netdiscover.specs.declared.fault.BadKind.TheVariants as bad
 use Rattle.fab_dump.specs.declared.fault.PlanFault.{PlanFault}
 use Rattle.fab_dump.specs.declared.fault.PlanFault.TheVariants as plan
-use Rattle.fab_dump.specs.Writing.{hex4}
 
 -- behind the file's name, and behind its name and a line
 abbrev pub in_file : List ℕ → List ℕ → List ℕ

@@ -1,4 +1,4 @@
-use Rattle.std.proofs.Common.{◌∙◌, sym, ap, arith}
+use Rattle.std.proofs.Common.{◌∙◌, arith}
 use Rattle.fab_top.proofs.Wording.{no_such_command}
 use Rattle.fab_top.proofs.words.read_words.Goals as goal
 
