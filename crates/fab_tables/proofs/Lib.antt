@@ -4,6 +4,7 @@ pub mod Examples
 pub mod VerdictExamples
 pub mod DeadlockLaws
 pub mod PlainLaws
+pub mod PlainVerdicts
 pub mod CertifiedLaws
 pub mod OneVerdict
 pub mod Cells

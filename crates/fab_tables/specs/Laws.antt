@@ -1,5 +1,5 @@
 -- Laws of the definitions.
-use Rattle.std.specs.Prelude.{◌≡◌, ℕ, ◌<◌, ◌==◌, ◌&&◌, List, [], length, if◌then◌else◌, Option, None, Contains, ◌↔◌, slice_index_or}
+use Rattle.std.specs.Prelude.{◌≡◌, ℕ, ◌<◌, ◌==◌, ◌&&◌, List, [], length, if◌then◌else◌, Option, Some, None, Contains, ◌↔◌, slice_index_or}
 use Rattle.fab_model.specs.declared.rows.TerminalRow.{TerminalRow}
 use Rattle.fab_model.specs.Topology.{Topology}
 use Rattle.fab_model.specs.WellFormed.{IsFabric}
@@ -15,9 +15,10 @@ use Rattle.fab_tables.specs.Route.{route, visited, HasRepeat}
 use Rattle.fab_tables.specs.VirtualChannels.{virtual_channels}
 use Rattle.fab_tables.specs.Dependencies.{IsUsed, Depends}
 use Rattle.fab_tables.specs.Certified.{Reaches, HasRisingNumbers, IsCertified}
-use Rattle.fab_tables.specs.Verdicts.{IsVerdict}
+use Rattle.fab_tables.specs.Verdicts.{IsVerdict, IsRefusal}
 use Rattle.fab_tables.specs.Deadlock.{Packet, IsDeadlocked}
 use Rattle.fab_tables.specs.Plain.{plain_channels, IsPlainlyUsed, DependsPlainly, RisesPlainly}
+use Rattle.fab_tables.specs.PlainVerdicts.{IsPlainVerdict, IsPlainRefusal}
 
 -- a set changes one entry and no other
 abbrev pub OneEntryChanges : Type 0
@@ -74,3 +75,8 @@ PlainAgrees = (t : Topology) (e : Entries) (l : LaneTables) → l.pairs ≡ [] �
     × ((v : VirtualChannel) → IsUsed t e l v ↔ IsPlainlyUsed t e l v)
     × ((v w : VirtualChannel) → Depends t e l v w ↔ DependsPlainly t e l v w)
     × (HasRisingNumbers t e l ↔ RisesPlainly t e l)
+
+-- and so are the verdict and the refusal
+abbrev pub PlainVerdictAgrees : Type 0
+PlainVerdictAgrees = (t : Topology) (e : Entries) (l : LaneTables) (v : Verdict) → l.pairs ≡ [] →
+    (IsVerdict t e (Some l) v ↔ IsPlainVerdict t e (Some l) v) × (IsRefusal t e l v ↔ IsPlainRefusal t e l v)

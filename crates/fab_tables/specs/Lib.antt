@@ -19,6 +19,7 @@ pub mod Reaching
 pub mod Starts
 pub mod Deadlock
 pub mod Plain
+pub mod PlainVerdicts
 pub mod Trees
 pub mod TreeWalks
 pub mod FixedEntries

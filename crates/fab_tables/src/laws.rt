@@ -1,4 +1,4 @@
-ghost use Rattle.fab_tables.specs.Laws.{LoopRepeats, LoopIsLong, OneEntryChanges, OneLevelChanges, OneLaneChanges, OnePairChanges, OneNumberChanges, OneVerdict, LanesIsCertified, RoutesReaches, RisingIsFreeOfDeadlock, PlainAgrees};
+ghost use Rattle.fab_tables.specs.Laws.{LoopRepeats, LoopIsLong, OneEntryChanges, OneLevelChanges, OneLaneChanges, OnePairChanges, OneNumberChanges, OneVerdict, LanesIsCertified, RoutesReaches, RisingIsFreeOfDeadlock, PlainAgrees, PlainVerdictAgrees};
 ghost use Rattle.fab_tables.specs.Reading.{ReadingAgrees};
 
 /// A set changes one entry and no other.
@@ -59,6 +59,11 @@ pub fn rising_is_free_of_deadlock()
 /// Without maps of pairs, what is said of terminals is what is said of sources.
 pub fn plain_agrees()
     ensures { PlainAgrees }
+{}
+
+/// Without maps of pairs, the verdict and the refusal are the same, said of terminals or of sources.
+pub fn plain_verdict_agrees()
+    ensures { PlainVerdictAgrees }
 {}
 
 /// The lanes with which a plan is read are what the functions on reading say.

@@ -1,0 +1,5 @@
+use Rattle.fab_tables.proofs.PlainVerdicts
+use Rattle.fab_tables.proofs.laws.plain_verdict_agrees.Goals as goal
+
+pub returns : goal.returns
+returns c = PlainVerdicts.plain_verdict_agrees
