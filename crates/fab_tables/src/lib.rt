@@ -1,6 +1,6 @@
-//! Forwarding tables, service levels and lane maps, following, and what a check of a plan answers: with what
-//! all that judges plans shares, the components of a fabric, the starts of packets and the first route that
-//! isn't delivered.
+//! Forwarding tables, service levels and lane maps, following, what a check of a plan answers, and what checking
+//! and certifying share: the components of a fabric, the starts of packets, the first route that isn't
+//! delivered.
 #![tactic(auto)]
 
 mod columns;
