@@ -32,6 +32,8 @@ const USAGE: &[u8] = b"usage: fabroute check FABRIC PLAN
        fabroute spread FABRIC GROUPS GROUP LID
        fabroute sweep cables FABRIC PLAN --lanes N
        fabroute sweep switches FABRIC PLAN --lanes N
+       fabroute export tables|levels|config FABRIC PLAN
+       fabroute replies FABRIC PLAN
 ";
 
 fn usage() -> &'static [u8]
