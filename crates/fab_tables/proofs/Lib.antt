@@ -32,3 +32,7 @@ pub mod RouteFaults
 pub mod StartsSorted
 pub mod LevelsLow
 pub mod StartFaults
+pub mod FaultSearch
+pub mod ConnectedDecided
+pub mod FaultsDecided
+pub mod VerdictExists
