@@ -36,3 +36,9 @@ pub mod FaultSearch
 pub mod ConnectedDecided
 pub mod FaultsDecided
 pub mod VerdictExists
+pub mod SameCells
+pub mod SameTables
+pub mod SameRoutes
+pub mod TreeWalks
+pub mod RisingTrees
+pub mod TreeRoutes
