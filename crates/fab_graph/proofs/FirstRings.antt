@@ -68,7 +68,7 @@ no_edges : (n a b : ℕ) → Walk (IsEdge []) n a b → a ≡ b
 no_edges zero a b w = w
 no_edges (suc n) a b w = absurd (omega (arith, w.1.1))
 
-comes_decided : (es : Edges) (a b : ℕ) → Decided (Comes es a b)
+pub comes_decided : (es : Edges) (a b : ℕ) → Decided (Comes es a b)
 comes_decided [] a b = equivalent (a ≡ b) (Comes [] a b) (λ q. (zero, q)) (λ r. no_edges r.0 a b r.1) (equal a b)
 comes_decided (e ∷ es) a b =
     equivalent (ComesBy e es a b) (Comes (e ∷ es) a b) (whole e es a b) (λ r. parted e es r.0 a b r.1)

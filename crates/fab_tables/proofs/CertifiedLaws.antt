@@ -94,18 +94,29 @@ channel_of_hop t l of_level from [] k v e = absurd (none_some v e)
 channel_of_hop t l of_level from (c ∷ cs) zero v e = ap (λ (w : VirtualChannel). Some w.channel.0) (unsome _ v e)
 channel_of_hop t l of_level from (c ∷ cs) (suc k) v e = channel_of_hop t l of_level (arrival (slice_get t.channels c)) cs k v e
 
-hop_channel : (t : Topology) (e : Entries) (l : LaneTables) (p : TerminalRow) (lid k : ℕ) (o : Option ℕ) (v : VirtualChannel) →
-    slice_get (at_level t l p.port ((route t e p.switch.0 lid).channels) o) k ≡ Some v → v.channel.0 < length t.channels
-hop_channel t e l p lid k None v x = absurd (none_some v x)
-hop_channel t e l p lid k (Some of_level) v x =
-    route_there t e lid (length t.switches) p.switch.0 k v.channel.0 (channel_of_hop t l of_level p.port ((route t e p.switch.0 lid).channels) k v x)
+-- the channel of a virtual channel stands at the same place of the route
+pub channel_of_virtual : (t : Topology) (e : Entries) (l : LaneTables) (p : TerminalRow) (lid k : ℕ) (v : VirtualChannel) →
+    slice_get (virtual_channels t e l p lid) k ≡ Some v → slice_get (route t e p.switch.0 lid).channels k ≡ Some v.channel.0
+channel_of_virtual t e l p lid k v at = go (level l p.switch.0 lid) at
+  where
+    go : (o : Option ℕ) → slice_get (at_level t l p.port ((route t e p.switch.0 lid).channels) o) k ≡ Some v → slice_get (route t e p.switch.0 lid).channels k ≡ Some v.channel.0
+    go None x = absurd (none_some v x)
+    go (Some of_level) x = channel_of_hop t l of_level p.port ((route t e p.switch.0 lid).channels) k v x
+
+hop_channel : (t : Topology) (e : Entries) (l : LaneTables) (p : TerminalRow) (lid k : ℕ) (v : VirtualChannel) → slice_get (virtual_channels t e l p lid) k ≡ Some v → v.channel.0 < length t.channels
+hop_channel t e l p lid k v x = route_there t e lid (length t.switches) p.switch.0 k v.channel.0 (channel_of_virtual t e l p lid k v x)
 
 -- so each hop leaves a switch
-leaves : (t : Topology) (e : Entries) (l : LaneTables) (p : TerminalRow) (lid k : ℕ) (v : VirtualChannel) →
+pub leaves : (t : Topology) (e : Entries) (l : LaneTables) (p : TerminalRow) (lid k : ℕ) (v : VirtualChannel) →
     slice_get (virtual_channels t e l p lid) k ≡ Some v → (c : ChannelRow) × Leaves t v c.tail
 leaves t e l p lid k v x =
-    let row : (c : ChannelRow) × (slice_get t.channels v.channel.0 ≡ Some c) = some_at t.channels v.channel.0 (hop_channel t e l p lid k (level l p.switch.0 lid) v x) in
+    let row : (c : ChannelRow) × (slice_get t.channels v.channel.0 ≡ Some c) = some_at t.channels v.channel.0 (hop_channel t e l p lid k v x) in
     (row.0, (row.0, row.1, refl))
+
+-- the hops of two terminals at one port are the same
+pub same_terminal : (t : Topology) (e : Entries) (l : LaneTables) (p q : TerminalRow) (lid : ℕ) → p.switch.0 ≡ q.switch.0 → p.port ≡ q.port → virtual_channels t e l p lid ≡ virtual_channels t e l q lid
+same_terminal t e l p q lid a b =
+    ap (λ s. at_level t l p.port ((route t e s lid).channels) (level l s lid)) a ∙ ap (λ port. at_level t l port ((route t e q.switch.0 lid).channels) (level l q.switch.0 lid)) b
 
 -- decided facts
 end_cases : (x : End) → (x ≡ Delivered) ⊎ (x ≢ Delivered)
@@ -183,11 +194,6 @@ module _ (t : Topology) (e : Entries) (l : LaneTables) (reaches : Reaches t e) (
   used_at : (lid source port k : ℕ) (v : VirtualChannel) → IsHop t e l lid source port k v → IsUsed t e l v
   used_at lid source port k v h = (h.terminal, lid, h.path, contains_of _ k v h.at_hop)
 
-  -- the hops of two terminals at one port are the same
-  same_terminal : (p q : TerminalRow) (lid : ℕ) → p.switch.0 ≡ q.switch.0 → p.port ≡ q.port → virtual_channels t e l p lid ≡ virtual_channels t e l q lid
-  same_terminal p q lid a b =
-      ap (λ s. at_level t l p.port ((route t e s lid).channels) (level l s lid)) a ∙ ap (λ port. at_level t l port ((route t e q.switch.0 lid).channels) (level l q.switch.0 lid)) b
-
   no_lane_fault : (place : List ℕ) (fault : Verdict) → IsLaneFaultAt t e l place fault → ⊥
   no_lane_fault place Routes f = f
   no_lane_fault place Lanes f = f
@@ -205,7 +211,7 @@ module _ (t : Topology) (e : Entries) (l : LaneTables) (reaches : Reaches t e) (
       let a : IsHop t e l lid.0 source.0 f.0 f.1 first = f.3 in
       let b : IsHop t e l lid.0 source.0 f.0 (suc f.1) second = f.4 in
       let follow : Follow (virtual_channels t e l a.terminal lid.0) first second =
-      (f.1, a.at_hop, subst (λ vs. slice_get vs (suc f.1) ≡ Some second) (same_terminal b.terminal a.terminal lid.0 (b.of_source ∙ sym a.of_source) (b.at_port ∙ sym a.at_port)) b.at_hop) in
+      (f.1, a.at_hop, subst (λ vs. slice_get vs (suc f.1) ≡ Some second) (same_terminal t e l b.terminal a.terminal lid.0 (b.of_source ∙ sym a.of_source) (b.at_port ∙ sym a.at_port)) b.at_hop) in
       omega (arith, f.5, f.6, f.7, good.rises first second (a.terminal, lid.0, a.path, follow))
 
 -- with these lanes or without any

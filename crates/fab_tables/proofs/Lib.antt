@@ -32,3 +32,13 @@ pub mod RouteFaults
 pub mod StartsSorted
 pub mod LevelsLow
 pub mod StartFaults
+pub mod FaultSearch
+pub mod ConnectedDecided
+pub mod FaultsDecided
+pub mod VerdictExists
+pub mod SameCells
+pub mod SameTables
+pub mod SameRoutes
+pub mod TreeWalks
+pub mod RisingTrees
+pub mod TreeRoutes

@@ -54,7 +54,7 @@ module _ (t : Topology) (e : Entries) (lid : ℕ) where
   abbrev GoesOn : ℕ → ℕ → ℕ → Type 0
   GoesOn k s c = (n j : ℕ) → n ≡ k + suc j → end_within n s ≡ end_within j (tip t c)
 
-  goes_on : (k n s c : ℕ) → slice_get (route_within t e lid n s).channels k ≡ Some c → (k < n) × GoesOn k s c
+  pub goes_on : (k n s c : ℕ) → slice_get (route_within t e lid n s).channels k ≡ Some c → (k < n) × GoesOn k s c
   goes_on k zero s c at = absurd (none-some c at)
   goes_on k (suc n) s c at = go (hop_at s) k refl (λ j next x. goes_on j n next c x) at
     where

@@ -21,11 +21,11 @@ use Rattle.fab_tables.specs.LaneTables.{LaneTables, level}
 use Rattle.fab_tables.specs.Fit.{EntriesFit, IsSource}
 use Rattle.fab_tables.specs.VirtualChannels.{virtual_channels}
 use Rattle.fab_tables.specs.Plain.{plain_channels}
-use Rattle.fab_tables.specs.Verdicts.{IsFirst, IsHop, IsLaneFaultAt}
+use Rattle.fab_tables.specs.Verdicts.{IsHop, IsLaneFaultAt}
 use Rattle.fab_tables.proofs.PlainLaws.{same_channels, source_of, terminal_of}
 use Rattle.fab_tables.specs.declared.starts.Start.{Start}
-use Rattle.fab_tables.specs.Starts.{start_of, IsNotAfter, IsOfTerminal, AreStarts}
-use Rattle.fab_tables.specs.First.{FindsFirst, Beneath}
+use Rattle.fab_tables.specs.Starts.{start_of, StartsNotAfter, IsOfTerminal, AreStarts}
+use Rattle.fab_tables.specs.First.{IsFirst, FindsFirst, Beneath}
 use Rattle.fab_tables.proofs.Lids.{connected_in_use, lesser_first}
 use Rattle.fab_tables.proofs.Firsts.{none_beneath, first_beneath}
 use Rattle.fab_tables.proofs.RouteFaults.{none_before}
@@ -220,12 +220,12 @@ module _ (t : Topology) (e : Entries) (l : LaneTables) where
 
       -- where those before this one are
       module _ (index : ℕ) (start : Start) (at : slice_get starts index ≡ Some start) (clear : (k : ℕ) (other : Start) → k < index → slice_get starts k ≡ Some other → IsClear t l P lid other) where
-        earlier : (other : Start) → Contains starts other → (IsNotAfter start other → ⊥) → IsClear t l P lid other
+        earlier : (other : Start) → Contains starts other → (StartsNotAfter start other → ⊥) → IsClear t l P lid other
         earlier other has before = elim (cases_lt has.0 index) [
           | inl low ↦ clear has.0 other low (slice_get-get_or starts has.0 other has.1 ∙ ap (λ x. Some x) has.2)
           | inr past ↦
-              absurd (before (subst (λ x. IsNotAfter start x) has.2
-              (subst (λ x. IsNotAfter x (slice_index_or starts has.0 other)) (get_or_from_slice_get starts index start other at) (are.in_order index has.0 other past has.1))))
+              absurd (before (subst (λ x. StartsNotAfter start x) has.2
+              (subst (λ x. StartsNotAfter x (slice_index_or starts has.0 other)) (get_or_from_slice_get starts index start other at) (are.in_order index has.0 other past has.1))))
         ]
 
         none_below : (m : ℕ) → m < start.switch.0 → FindsFirst (Beneath (1 ∷ lid ∷ m ∷ []) P) None

@@ -1,5 +1,5 @@
 -- Laws of the definitions.
-use Rattle.std.specs.Prelude.{◌≡◌, ℕ, ◌<◌, ◌==◌, ◌&&◌, List, [], length, if◌then◌else◌, Option, Some, None, Contains, ◌↔◌, slice_index_or}
+use Rattle.std.specs.Prelude.{◌≡◌, ℕ, ◌<◌, ◌==◌, ◌&&◌, List, [], length, if◌then◌else◌, Option, Some, None, Contains, ◌↔◌, slice_index_or, ◌⊎◌}
 use Rattle.fab_model.specs.declared.rows.TerminalRow.{TerminalRow}
 use Rattle.fab_model.specs.Topology.{Topology}
 use Rattle.fab_model.specs.WellFormed.{IsFabric}
@@ -15,7 +15,7 @@ use Rattle.fab_tables.specs.Route.{route, visited, HasRepeat}
 use Rattle.fab_tables.specs.VirtualChannels.{virtual_channels}
 use Rattle.fab_tables.specs.Dependencies.{IsUsed, Depends}
 use Rattle.fab_tables.specs.Certified.{Reaches, HasRisingNumbers, IsCertified}
-use Rattle.fab_tables.specs.Verdicts.{IsVerdict, IsRefusal}
+use Rattle.fab_tables.specs.Verdicts.{IsFaultAt, IsVerdict, IsStructural, IsRefusal}
 use Rattle.fab_tables.specs.Deadlock.{Packet, IsDeadlocked}
 use Rattle.fab_tables.specs.Plain.{plain_channels, IsPlainlyUsed, DependsPlainly, RisesPlainly}
 use Rattle.fab_tables.specs.PlainVerdicts.{IsPlainVerdict, IsPlainRefusal}
@@ -52,9 +52,18 @@ LoopRepeats = (t : Topology) (e : Entries) (s lid : ℕ) → IsFabric t → s < 
 abbrev pub LoopIsLong : Type 0
 LoopIsLong = (t : Topology) (e : Entries) (s lid : ℕ) → (route t e s lid).end ≡ Loop → length ((route t e s lid).channels) ≡ length t.switches
 
--- a plan has one verdict
+-- a plan has a verdict
+abbrev pub VerdictExists : Type 0
+VerdictExists = (t : Topology) (e : Entries) (l : Option LaneTables) → IsFabric t → (v : Verdict) × IsVerdict t e l v
+
+-- and one only
 abbrev pub OneVerdict : Type 0
 OneVerdict = (t : Topology) (e : Entries) (l : Option LaneTables) (v w : Verdict) → IsVerdict t e l v → IsVerdict t e l w → v ≡ w
+
+-- with lanes it has a refusal, or at no place a fault that no numbers can mend
+abbrev pub RefusalOrNone : Type 0
+RefusalOrNone = (t : Topology) (e : Entries) (l : LaneTables) → IsFabric t →
+    ((v : Verdict) × IsRefusal t e l v) ⊎ ((place : List ℕ) (fault : Verdict) → IsStructural fault → ¬ IsFaultAt t e (Some l) place fault)
 
 -- the verdict is Lanes exactly of certified plans
 abbrev pub LanesIsCertified : Type 0

@@ -12,17 +12,18 @@ use Rattle.fab_tables.specs.Reaching.{IsToward}
 abbrev pub start_of : TerminalRow → Start
 start_of row = record { switch = row.switch; port = row.port }
 
--- by switch, and then by port
-abbrev pub IsNotAfter : Start → Start → Type 0
-IsNotAfter a b = (a.switch.0 < b.switch.0) ⊎ ((a.switch.0 ≡ b.switch.0) × (a.port ≤ b.port))
+-- by switch and then by port, the one start comes before the other or is the same
+abbrev pub StartsNotAfter : Start → Start → Type 0
+StartsNotAfter a b = (a.switch.0 < b.switch.0) ⊎ ((a.switch.0 ≡ b.switch.0) × (a.port ≤ b.port))
 
 -- some terminal of the fabric starts there
 abbrev pub IsOfTerminal : Topology → Start → Type 0
 IsOfTerminal t start = (row : TerminalRow) × Contains t.terminals row × (start_of row ≡ start)
 
--- those of all terminals of a fabric, in order
+-- those of all terminals of a fabric in order, each as often as terminals have it
 pub record AreStarts (t : Topology) (starts : List Start) : Type 0 where
-  pub in_order : (i j : ℕ) (d : Start) → i ≤ j → j < length starts → IsNotAfter (slice_index_or starts i d) (slice_index_or starts j d)
+  pub in_order : (i j : ℕ) (d : Start) → i ≤ j → j < length starts → StartsNotAfter (slice_index_or starts i d) (slice_index_or starts j d)
+  pub as_many : length starts ≡ length t.terminals
   pub terminals : All (IsOfTerminal t) starts
   pub all : All (λ row. Contains starts (start_of row)) t.terminals
 

@@ -1,4 +1,4 @@
-ghost use Rattle.fab_tables.specs.Laws.{LoopRepeats, LoopIsLong, OneEntryChanges, OneLevelChanges, OneLaneChanges, OnePairChanges, OneNumberChanges, OneVerdict, LanesIsCertified, RoutesReaches, RisingIsFreeOfDeadlock, PlainAgrees, PlainVerdictAgrees};
+ghost use Rattle.fab_tables.specs.Laws.{LoopRepeats, LoopIsLong, OneEntryChanges, OneLevelChanges, OneLaneChanges, OnePairChanges, OneNumberChanges, VerdictExists, OneVerdict, RefusalOrNone, LanesIsCertified, RoutesReaches, RisingIsFreeOfDeadlock, PlainAgrees, PlainVerdictAgrees};
 ghost use Rattle.fab_tables.specs.Reading.{ReadingAgrees};
 
 /// A set changes one entry and no other.
@@ -36,9 +36,19 @@ pub fn loop_is_long()
     ensures { LoopIsLong }
 {}
 
-/// A plan has one verdict.
+/// A plan has a verdict.
+pub fn verdict_exists()
+    ensures { VerdictExists }
+{}
+
+/// A plan has one verdict only.
 pub fn one_verdict()
     ensures { OneVerdict }
+{}
+
+/// A plan with lanes has a refusal, or no fault but of its numbers.
+pub fn refusal_or_none()
+    ensures { RefusalOrNone }
 {}
 
 /// The verdict is `Lanes` exactly of certified plans.

@@ -1,0 +1,5 @@
+use Rattle.fab_tables.proofs.VerdictExists
+use Rattle.fab_tables.proofs.laws.refusal_or_none.Goals as goal
+
+pub returns : goal.returns
+returns c = VerdictExists.refusal_or_none
