@@ -12,8 +12,8 @@ pub mod HopsAhead
 pub mod Dependencies
 pub mod Reading
 pub mod Certified
-pub mod Verdicts
 pub mod First
+pub mod Verdicts
 pub mod Components
 pub mod Searching
 pub mod Reaching
