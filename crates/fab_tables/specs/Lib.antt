@@ -8,6 +8,7 @@ pub mod Fit
 pub mod Route
 pub mod Ahead
 pub mod VirtualChannels
+pub mod HopsAhead
 pub mod Dependencies
 pub mod Reading
 pub mod Certified
