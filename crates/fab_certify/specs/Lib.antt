@@ -10,3 +10,4 @@ pub mod Structural
 pub mod Collected
 pub mod Numbers
 pub mod OneLane
+pub mod Mapping

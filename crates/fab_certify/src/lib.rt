@@ -4,6 +4,7 @@
 mod certified;
 mod collecting;
 mod dependencies;
+mod lane_per_level;
 mod graph;
 mod hops;
 mod lanes;
@@ -17,6 +18,7 @@ mod ring;
 mod rings;
 
 pub use certified::{Certified, certify};
+pub use lane_per_level::engine_lanes;
 pub use graph::Graph;
 pub use laws::{numbered_is_certified, one_certificate, plain_certificate, refusal_is_unsound};
 pub use layers::levels;
