@@ -1,15 +1,3 @@
-pub mod Times
-pub mod EdgesOf
-pub mod EdgesLeft
-pub mod TakingEdges
-pub mod TakingNodes
-pub mod FreeNodes
-pub mod NextLayer
-pub mod ClosedWalks
-pub mod ReachingTails
-pub mod ReachingLayers
-pub mod LeastAt
-pub mod RingSteps
 pub mod HopsAlong
 pub mod BadLanes
 pub mod HopChannels

@@ -1,7 +1,3 @@
-pub mod EdgeList
-pub mod Neighbours
-pub mod Layers
-pub mod Nearness
 pub mod Numbered
 pub mod Certificate
 pub mod EnginePlans

@@ -10,12 +10,10 @@ ghost use Rattle.fab_certify.specs.Certificate.{IsCertificate, IsCertificateBy, 
 
 use crate::collecting::collect;
 use crate::lanes::first_lane_fault;
-use crate::layers::levels;
 use crate::numbers::set_numbers;
 use crate::one_lane::one_lane;
-use crate::ring::Ring;
-use crate::rings::first_ring;
 use fab_model::Fabric;
+use fab_rings::{Ring, first_ring, levels};
 use fab_tables::{Components, Lanes, Plan, Start, Tables, Verdict, first_unreached, starts_of};
 use std::alloc::{AllocError, Global};
 

@@ -2,7 +2,7 @@
 ghost use Rattle.std.specs.Prelude.{◌≡◌, ◌<◌, ◌↔◌, [], length, replicate, false, IfOk, OnOk, IfSome, IsTrue};
 ghost use Rattle.fab_certify.specs.Collected.{IsMarked, AddsHop};
 
-use crate::graph::Graph;
+use fab_rings::Graph;
 use std::alloc::{AllocError, Global};
 use std::collections::HashSet;
 use std::marker::Model;

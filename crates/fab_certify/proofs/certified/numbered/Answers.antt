@@ -2,7 +2,7 @@ use Rattle.std.proofs.Common.{◌≡◌, ◌*◌, refl, ◌∙◌, subst, length
 use Rattle.std.specs.Prelude.{MatchOption}
 use Rattle.fab_graph.specs.Walks.{IsEdge, HasClosedWalk, IsAcyclic}
 use Rattle.fab_graph.specs.Rings.{IsFirstRing}
-use Rattle.fab_certify.specs.EdgeList.{AreNodeLevels}
+use Rattle.fab_rings.specs.EdgeList.{AreNodeLevels}
 use Rattle.fab_certify.specs.Numbers.{HasNumbers}
 use Rattle.fab_certify.proofs.NumberedPlan.{has_ring, dependency_ring, is_numbered}
 use Rattle.fab_certify.proofs.certified.numbered.Goals as goal

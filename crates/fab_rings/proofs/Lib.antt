@@ -1,0 +1,12 @@
+pub mod Times
+pub mod EdgesOf
+pub mod EdgesLeft
+pub mod TakingEdges
+pub mod TakingNodes
+pub mod FreeNodes
+pub mod NextLayer
+pub mod ClosedWalks
+pub mod ReachingTails
+pub mod ReachingLayers
+pub mod LeastAt
+pub mod RingSteps

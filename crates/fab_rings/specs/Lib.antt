@@ -1,0 +1,4 @@
+pub mod EdgeList
+pub mod Neighbours
+pub mod Layers
+pub mod Nearness

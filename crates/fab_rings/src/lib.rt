@@ -1,0 +1,17 @@
+//! Rings and levels of directed graphs that are given by a list of edges.
+#![tactic(auto)]
+
+mod graph;
+mod layers;
+mod nearness;
+mod neighbours;
+mod ring;
+mod rings;
+
+pub use graph::Graph;
+pub use layers::levels;
+pub use ring::Ring;
+pub use rings::first_ring;
+
+#[cfg(test)]
+mod tests;
