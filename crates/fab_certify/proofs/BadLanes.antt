@@ -11,9 +11,9 @@ use Rattle.fab_tables.specs.declared.verdict.Verdict.{Verdict}
 use Rattle.fab_tables.specs.declared.verdict.Verdict.TheVariants.{Routes, Lanes, Unreached, NoLevel, BadLane, NoNumber, NotRising}
 use Rattle.fab_tables.specs.Entries.{Entries}
 use Rattle.fab_tables.specs.LaneTables.{LaneTables}
-use Rattle.fab_tables.specs.Verdicts.{IsFirst, IsHop, Leaves}
+use Rattle.fab_tables.specs.Verdicts.{IsHop, Leaves}
 use Rattle.fab_tables.specs.declared.starts.Start.{Start}
-use Rattle.fab_tables.specs.First.{FindsFirst, Beneath}
+use Rattle.fab_tables.specs.First.{IsFirst, FindsFirst, Beneath}
 use Rattle.fab_tables.specs.Starts.{StartsAt}
 use Rattle.fab_tables.proofs.Firsts.{none_beneath, first_beneath}
 use Rattle.fab_tables.proofs.RouteFaults.{none_before}

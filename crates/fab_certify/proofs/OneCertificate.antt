@@ -19,7 +19,8 @@ use Rattle.fab_tables.specs.Route.{route}
 use Rattle.fab_tables.specs.VirtualChannels.{virtual_channel, at_level}
 use Rattle.fab_tables.specs.Dependencies.{IsUsed, Depends, DependsByNode, node_of}
 use Rattle.fab_tables.specs.Certified.{number_of}
-use Rattle.fab_tables.specs.Verdicts.{IsBefore, IsHop, Leaves, IsLaneFaultAt, IsFaultAt, IsStructural, IsRefusal}
+use Rattle.fab_tables.specs.First.{IsBefore}
+use Rattle.fab_tables.specs.Verdicts.{IsHop, Leaves, IsLaneFaultAt, IsFaultAt, IsStructural, IsRefusal}
 use Rattle.fab_tables.proofs.RouteFaults.{IsUnreached, unreached}
 use Rattle.fab_tables.proofs.StartFaults.{IsOfLid, of_lid}
 use Rattle.fab_certify.specs.declared.certified.Certified.{Certified}

@@ -14,10 +14,10 @@ use Rattle.fab_tables.specs.LaneTables.{LaneTables, level}
 use Rattle.fab_tables.specs.VirtualChannels.{virtual_channels}
 use Rattle.fab_tables.specs.Dependencies.{IsPath}
 use Rattle.fab_tables.specs.Certified.{Reaches}
-use Rattle.fab_tables.specs.Verdicts.{IsBefore, IsFirst, IsHop, IsLaneFaultAt, IsFaultAt, IsStructural, IsRefusal}
+use Rattle.fab_tables.specs.Verdicts.{IsHop, IsLaneFaultAt, IsFaultAt, IsStructural, IsRefusal}
 use Rattle.fab_tables.proofs.CertifiedLaws.{get_of, routes_reaches}
 use Rattle.fab_tables.proofs.PlainLaws.{source_of}
-use Rattle.fab_tables.specs.First.{FindsFirst}
+use Rattle.fab_tables.specs.First.{IsBefore, IsFirst, FindsFirst}
 use Rattle.fab_tables.proofs.RouteFaults.{IsUnreached, unreached}
 use Rattle.fab_tables.proofs.StartFaults.{IsOfLid, of_lid}
 use Rattle.fab_certify.specs.Structural.{IsStructuralAt}

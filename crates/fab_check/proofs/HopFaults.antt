@@ -21,9 +21,9 @@ use Rattle.fab_tables.specs.LaneTables.{LaneTables, level, lane_at}
 use Rattle.fab_tables.specs.Route.{route}
 use Rattle.fab_tables.specs.VirtualChannels.{virtual_channel, virtual_channels, on_channels, at_level, hop_lane, arrival}
 use Rattle.fab_tables.specs.Certified.{number_of}
-use Rattle.fab_tables.specs.Verdicts.{IsBefore, IsFirst, IsHop, Leaves, IsLaneFaultAt}
+use Rattle.fab_tables.specs.Verdicts.{IsHop, Leaves, IsLaneFaultAt}
 use Rattle.fab_tables.specs.declared.starts.Start.{Start}
-use Rattle.fab_tables.specs.First.{FindsFirst, Beneath}
+use Rattle.fab_tables.specs.First.{IsBefore, IsFirst, FindsFirst, Beneath}
 use Rattle.fab_tables.specs.Starts.{StartsAt}
 use Rattle.fab_tables.proofs.Firsts.{none_beneath, first_beneath}
 use Rattle.fab_tables.proofs.Ways.{IsOnWay, drop_step, goes_on, channel_low}

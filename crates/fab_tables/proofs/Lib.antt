@@ -28,6 +28,7 @@ pub mod Routes
 pub mod Lids
 pub mod Firsts
 pub mod Ways
+pub mod HopsTaken
 pub mod RouteFaults
 pub mod StartsSorted
 pub mod LevelsLow

@@ -12,7 +12,8 @@ use Rattle.fab_tables.specs.declared.verdict.Verdict.TheVariants.{Routes, Lanes,
 use Rattle.fab_tables.specs.Entries.{Entries}
 use Rattle.fab_tables.specs.LaneTables.{LaneTables}
 use Rattle.fab_tables.specs.Fit.{IsSource}
-use Rattle.fab_tables.specs.Verdicts.{IsBefore, IsHop, IsLaneFaultAt, IsFaultAt, IsFirst, IsStructural, IsVerdict}
+use Rattle.fab_tables.specs.First.{IsBefore, IsFirst}
+use Rattle.fab_tables.specs.Verdicts.{IsHop, IsLaneFaultAt, IsFaultAt, IsStructural, IsVerdict}
 use Rattle.fab_tables.specs.Plain.{plain_channels}
 use Rattle.fab_tables.specs.PlainVerdicts.{IsPlainHop, IsPlainLaneFaultAt, IsPlainFaultAt, IsPlainVerdict}
 use Rattle.fab_tables.specs.Laws.{PlainVerdictAgrees}

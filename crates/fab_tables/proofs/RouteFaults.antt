@@ -17,10 +17,10 @@ use Rattle.fab_tables.specs.Entries.{Entries}
 use Rattle.fab_tables.specs.Fit.{EntriesFit}
 use Rattle.fab_tables.specs.LaneTables.{LaneTables}
 use Rattle.fab_tables.specs.Route.{route}
-use Rattle.fab_tables.specs.Verdicts.{IsBefore, IsFirst, IsFaultAt}
+use Rattle.fab_tables.specs.Verdicts.{IsFaultAt}
 use Rattle.fab_tables.proofs.FallingRoutes.{connected_below}
 use Rattle.fab_tables.specs.Reaching.{IsToward}
-use Rattle.fab_tables.specs.First.{FindsFirst, Beneath}
+use Rattle.fab_tables.specs.First.{IsBefore, IsFirst, FindsFirst, Beneath}
 use Rattle.fab_tables.proofs.Lids.{connected_in_use, lesser_first}
 use Rattle.fab_tables.proofs.Firsts.{none_beneath, first_beneath}
 

@@ -21,11 +21,11 @@ use Rattle.fab_tables.specs.LaneTables.{LaneTables, level}
 use Rattle.fab_tables.specs.Fit.{EntriesFit, IsSource}
 use Rattle.fab_tables.specs.VirtualChannels.{virtual_channels}
 use Rattle.fab_tables.specs.Plain.{plain_channels}
-use Rattle.fab_tables.specs.Verdicts.{IsFirst, IsHop, IsLaneFaultAt}
+use Rattle.fab_tables.specs.Verdicts.{IsHop, IsLaneFaultAt}
 use Rattle.fab_tables.proofs.PlainLaws.{same_channels, source_of, terminal_of}
 use Rattle.fab_tables.specs.declared.starts.Start.{Start}
 use Rattle.fab_tables.specs.Starts.{start_of, IsNotAfter, IsOfTerminal, AreStarts}
-use Rattle.fab_tables.specs.First.{FindsFirst, Beneath}
+use Rattle.fab_tables.specs.First.{IsFirst, FindsFirst, Beneath}
 use Rattle.fab_tables.proofs.Lids.{connected_in_use, lesser_first}
 use Rattle.fab_tables.proofs.Firsts.{none_beneath, first_beneath}
 use Rattle.fab_tables.proofs.RouteFaults.{none_before}

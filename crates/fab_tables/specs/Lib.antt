@@ -8,11 +8,12 @@ pub mod Fit
 pub mod Route
 pub mod Ahead
 pub mod VirtualChannels
+pub mod HopsAhead
 pub mod Dependencies
 pub mod Reading
 pub mod Certified
-pub mod Verdicts
 pub mod First
+pub mod Verdicts
 pub mod Components
 pub mod Searching
 pub mod Reaching

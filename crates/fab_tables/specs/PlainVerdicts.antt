@@ -16,7 +16,8 @@ use Rattle.fab_tables.specs.Entries.{Entries}
 use Rattle.fab_tables.specs.LaneTables.{LaneTables}
 use Rattle.fab_tables.specs.Fit.{IsSource}
 use Rattle.fab_tables.specs.Certified.{number_of}
-use Rattle.fab_tables.specs.Verdicts.{Leaves, IsLaneFaultAt, IsFaultAt, IsFirst, IsStructural}
+use Rattle.fab_tables.specs.First.{IsFirst}
+use Rattle.fab_tables.specs.Verdicts.{Leaves, IsLaneFaultAt, IsFaultAt, IsStructural}
 use Rattle.fab_tables.specs.Plain.{plain_channels}
 
 -- at the hop of this count, on the route from the source to the LID, a packet takes this virtual channel

@@ -1,6 +1,7 @@
 ghost use Rattle.std.specs.Prelude.{◌≡◌, ◌<◌, length, Contains, false, MatchResult};
 ghost use Rattle.fab_model.specs.declared.rows.ChannelId.{ChannelId as Channel};
 ghost use Rattle.fab_model.specs.Topology.{lids_of};
+ghost use Rattle.fab_model.specs.WellFormed.{IsFabric};
 ghost use Rattle.fab_tables.specs.declared.end.End.{End as Ending};
 ghost use Rattle.fab_tables.specs.Entries.{entry};
 ghost use Rattle.fab_tables.specs.Route.{route, hop_by};
@@ -85,6 +86,7 @@ pub fn follow<'a>(fabric: &'a Fabric, tables: &'a Tables, from: SwitchId, lid: L
     ensures channels { result.channels ≡ (route fabric.now tables.now from.0 lid.0).channels }
     ensures end { result.end ≡ (route fabric.now tables.now from.0 lid.0).end }
     ensures begins { result.over ≡ false }
+    ensures kept { IsFabric fabric.now }
 {
     Following {
         fabric,

@@ -13,6 +13,7 @@ mod level_byte;
 mod pairs;
 mod plan;
 mod reaching;
+mod route_hops;
 mod starts;
 mod tables;
 #[cfg(test)]
@@ -32,6 +33,7 @@ pub use laws::{
 };
 pub use plan::Plan;
 pub use reaching::first_unreached;
+pub use route_hops::{RouteHops, hops};
 pub use starts::{Start, starts_of};
 pub use tables::Tables;
 pub use tree::Tree;
