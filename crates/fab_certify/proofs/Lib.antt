@@ -1,6 +1,8 @@
 pub mod HopsAlong
 pub mod BadLanes
 pub mod HopChannels
+pub mod RouteSuffixes
+pub mod Mapping
 pub mod OneLane
 pub mod NumbersSet
 pub mod Refusals
@@ -16,5 +18,7 @@ pub mod SameLanes
 pub mod ImageWalks
 pub mod ReadAlike
 pub mod OneCertificate
+pub mod EngineLanes
+pub mod OneEnginePlan
 pub mod Examples
 pub mod CertificateExample

@@ -6,3 +6,4 @@ pub mod Structural
 pub mod Collected
 pub mod Numbers
 pub mod OneLane
+pub mod Mapping

@@ -5,6 +5,7 @@ mod certified;
 mod collecting;
 mod dependencies;
 mod hops;
+mod lane_per_level;
 mod lanes;
 mod laws;
 mod numbers;
@@ -12,6 +13,7 @@ mod one_lane;
 
 pub use certified::{Certified, certify};
 pub use fab_rings::{Graph, Ring, first_ring, levels};
+pub use lane_per_level::engine_lanes;
 pub use laws::{numbered_is_certified, one_certificate, plain_certificate, refusal_is_unsound};
 
 #[cfg(test)]
