@@ -33,3 +33,8 @@ pub mod RouteFaults
 pub mod StartsSorted
 pub mod LevelsLow
 pub mod StartFaults
+pub mod SoughtFaults
+pub mod RoutesBehind
+pub mod HopFaults
+pub mod HopsJudged
+pub mod Judged

@@ -1,5 +1,5 @@
 -- Where the packets of the terminals start.
-use Rattle.std.specs.Prelude.{◌≡◌, ℕ, ◌<◌, ◌≤◌, ◌⊎◌, List, Some, All, Contains, length, slice_index_or}
+use Rattle.std.specs.Prelude.{◌≡◌, ℕ, ◌<◌, ◌≤◌, ◌⊎◌, List, [], Some, All, Contains, length, slice_index_or}
 use Rattle.fab_model.specs.declared.rows.TerminalRow.{TerminalRow}
 use Rattle.fab_model.specs.Topology.{Topology}
 use Rattle.fab_model.specs.Connected.{IsConnectedTo}
@@ -25,6 +25,18 @@ pub record AreStarts (t : Topology) (starts : List Start) : Type 0 where
   pub in_order : (i j : ℕ) (d : Start) → i ≤ j → j < length starts → IsNotAfter (slice_index_or starts i d) (slice_index_or starts j d)
   pub terminals : All (IsOfTerminal t) starts
   pub all : All (λ row. Contains starts (start_of row)) t.terminals
+
+-- A start stands for the terminal: it is the terminal's own, or where no pair of ports has a map, one of its switch at a port that isn't higher.
+pub record StandsFor (l : LaneTables) (start : Start) (row : TerminalRow) : Type 0 where
+  pub switch : start.switch.0 ≡ row.switch.0
+  pub port : start.port ≤ row.port
+  pub alike : (start.port ≡ row.port) ⊎ (l.pairs ≡ [])
+
+-- in order, and one for each terminal; packets of all terminals are like those that start there
+pub record AreStartsFor (t : Topology) (l : LaneTables) (starts : List Start) : Type 0 where
+  pub in_order : (i j : ℕ) (d : Start) → i ≤ j → j < length starts → IsNotAfter (slice_index_or starts i d) (slice_index_or starts j d)
+  pub terminals : All (IsOfTerminal t) starts
+  pub all : All (λ row. (start : Start) × Contains starts start × StandsFor l start row) t.terminals
 
 -- packets to a LID start there, and have this level
 pub record StartsAt (t : Topology) (e : Entries) (l : LaneTables) (lid : ℕ) (start : Start) (of_level : ℕ) : Type 0 where
