@@ -44,11 +44,17 @@ module _ (faults : LaneFaults) (l : LaneTables) where
       before = slice_dropped hops n j ∙ ap (λ i. before_at hops i) (let e : suc (n + j) ≡ k = omega (arith, next) in e)
 
 -- no mark is set
-pub none_judged : (faults : LaneFaults) (t : Topology) (e : Entries) (l : LaneTables) (lid n : ℕ) → IsRoomFor t (replicate n false) → AreJudged faults t e l lid (replicate n false)
-none_judged faults t e l lid n room = record { room = room; right = λ s of_level low marked. absurd (false≢true (sym (unmarked (cell 16 s of_level)) ∙ marked)) }
-  where
-    unmarked : (k : ℕ) → slice_index_or (replicate n false) k false ≡ false
-    unmarked k = elim (cases_lt k n) [ inl low ↦ get_or-replicate n false k false low | inr past ↦ get_or_past (replicate n false) k false (omega (arith, length-replicate n false)) ]
+unmarked : (n k : ℕ) → slice_index_or (replicate n false) k false ≡ false
+unmarked n k = elim (cases_lt k n) [
+  | inl low ↦ get_or-replicate n k false false low
+  | inr past ↦ get_or_past (replicate n false) k false (omega (arith, length-replicate n false))
+]
+
+pub cleared : (faults : LaneFaults) (t : Topology) (e : Entries) (l : LaneTables) (lid : ℕ) (old new : List Bool) → new ≡ replicate (length old) false → IsRoomFor t old → AreJudged faults t e l lid new
+cleared faults t e l lid old new is room = record {
+  room = ap (λ (ms : List Bool). length ms) is ∙ length-replicate (length old) false ∙ room;
+  right = λ s of_level low marked. absurd (false≢true (sym (unmarked (length old) (cell 16 s of_level)) ∙ ap (λ ms. slice_index_or ms (cell 16 s of_level) false) (sym is) ∙ marked));
+}
 
 -- a cell is that of one switch and level
 one_cell : (s n x m : ℕ) → n < 16 → m < 16 → cell 16 s n ≡ cell 16 x m → (s ≡ x) × (n ≡ m)

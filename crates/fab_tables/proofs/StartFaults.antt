@@ -297,6 +297,17 @@ module _ (t : Topology) (e : Entries) (l : LaneTables) where
       first_by_lid None some first = cc
       first_by_lid (Some fault) some first = first_beneath P none_empty 1 fault (first_beneath (Beneath (1 ∷ []) P) none_at_1 lid fault first none_less) (λ m less. none_at_other m (λ is. omega (arith, is, less)))
 
+      pub one_lid_clear : (found : Option Verdict) → found ≡ None → FindsFirst (Beneath (1 ∷ lid ∷ []) P) found →
+          (k other : ℕ) → k < index + 1 → slice_get (lids_of t) k ≡ Some other → FindsFirst (Beneath (1 ∷ other ∷ []) P) None
+      one_lid_clear found nothing here k other low there = elim (cases_lt k index) [
+        | inl less ↦ none k other less there
+        | inr same ↦
+            (let eq : index ≡ k = omega arith in
+            let is : lid ≡ other = same_Some lid other (sym at ∙ ap (λ n. slice_get (lids_of t) n) eq ∙ there) in
+            let none_here : FindsFirst (Beneath (1 ∷ lid ∷ []) P) None = subst (λ o. FindsFirst (Beneath (1 ∷ lid ∷ []) P) o) nothing here in
+            subst (λ n. FindsFirst (Beneath (1 ∷ n ∷ []) P) None) is none_here)
+      ]
+
     pub none_by_lid : ((k lid : ℕ) → k < length (lids_of t) → slice_get (lids_of t) k ≡ Some lid → FindsFirst (Beneath (1 ∷ lid ∷ []) P) None) → FindsFirst P None
     none_by_lid none = none_beneath P none_empty (λ m. kinds m (cases_eq m 1))
       where

@@ -13,7 +13,7 @@ ghost use Rattle.fab_tables.specs.Certified.{Reaches};
 ghost use Rattle.fab_tables.specs.LaneTables.{level as level_of};
 ghost use Rattle.fab_tables.specs.First.{FindsFirst, Beneath};
 ghost use Rattle.fab_tables.specs.Reaching.{IsToward};
-ghost use Rattle.fab_tables.specs.Starts.{IsOfTerminal, AreStartsFor};
+ghost use Rattle.fab_tables.specs.Starts.{IsOfTerminal, AreStartsFor, AreAllStarts};
 ghost use Rattle.fab_tables.specs.LaneFaults.{IsSoughtAt};
 ghost use Rattle.fab_tables.specs.Judged.{IsRoomFor, AreJudged};
 
@@ -21,7 +21,7 @@ use crate::components::Components;
 use crate::judging::{first_hop_fault, mark_route};
 use crate::lanes::Lanes;
 use crate::marks::Marks;
-use crate::starts::Start;
+use crate::starts::{Start, Starts};
 use crate::tables::Tables;
 use crate::verdict::Verdict;
 use fab_model::{Fabric, Lid};
@@ -36,25 +36,27 @@ pub enum LaneFaults {
 }
 
 /// The first fault of a plan's lanes, by LID and then by source connected to it, where all routes are
-/// delivered. For each LID it takes three hops for each start, and two for each switch and level.
+/// delivered. For each LID it takes two hops for each switch and level, and three for each start; without
+/// maps of pairs one start a source is looked at.
 pub fn first_lane_fault(
     fabric: &Fabric,
     tables: &Tables,
     lanes: &Lanes,
     faults: LaneFaults,
     components: &Components,
-    starts: &[Start],
+    starts: &Starts,
     marks: &mut Marks,
 ) -> Option<Verdict>
     requires tables { EntriesFit fabric.now tables.now }
     requires lanes { LanesFit fabric.now lanes.now }
     requires reaches { Reaches fabric.now tables.now }
     requires components { components.now ≡ fabric.now }
-    requires starts { AreStartsFor fabric.now lanes.now starts.now }
+    requires starts { AreAllStarts fabric.now starts.now }
     requires room { IsRoomFor fabric.now marks.old }
     ensures fault { FindsFirst (IsSoughtAt faults fabric.now tables.now lanes.now) result }
     ensures room { IsRoomFor fabric.now marks.new }
 {
+    let starts = starts.standing(lanes);
     for lid in fabric.lids_in_use() {
         let fault =
             fault_for(fabric, tables, lanes, faults, *lid, components, starts, marks);

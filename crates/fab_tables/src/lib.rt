@@ -39,7 +39,7 @@ pub use marks::Marks;
 pub use plan::Plan;
 pub use reaching::first_unreached;
 pub use route_hops::{RouteHops, hops};
-pub use starts::{Start, starts_of};
+pub use starts::{Start, Starts, starts_of};
 pub use tables::Tables;
 pub use tree::Tree;
 pub use verdict::{Verdict, VirtualChannel};
