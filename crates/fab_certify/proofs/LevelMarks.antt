@@ -1,5 +1,5 @@
 -- A switch and a level are marked by a bit.
-use Rattle.std.proofs.Common.{◌≡◌, ◌≢◌, ℕ, ◌*◌, ◌%◌, ◌^◌, ◌<◌, false, not, List, length, replicate, sym, ◌∙◌, ap, subst, inl, inr, ◌⊎◌, arith, get_or-set_same, get_or-set_other}
+use Rattle.std.proofs.Common.{◌≡◌, ◌≢◌, ℕ, ◌*◌, ◌%◌, ◌^◌, ◌<◌, not, List, length, replicate, sym, ◌∙◌, ap, subst, inl, inr, ◌⊎◌, arith, get_or-set_same, get_or-set_other}
 use Rattle.std.specs.Prelude.{slice_index_or, slice_set, bit_and, bit_or, IsTrue, nat_eq}
 use Rattle.std.specs.Int.{bit_at, w16}
 use Rattle.std.proofs.lemmas.Bool.{cases_eq, cases_lt, not-true, not_from_false, eq-eqb, ne_eqb, false≢true}

@@ -1,9 +1,6 @@
-use Rattle.std.proofs.Common.{◌≡◌, ◌*◌, ℕ, refl, sym, ◌∙◌, ap, arith, length, replicate, false, Bool, map, Some, slice_get, option_map}
-use Rattle.std.proofs.lemmas.List.{length-replicate, length-map}
-use Rattle.std.proofs.lemmas.Option.{slice_get-map, slice_get-get_or}
+use Rattle.std.proofs.Common.{◌≡◌, ◌*◌, ℕ, refl, ◌∙◌, ap, arith, length, replicate, false, Bool}
+use Rattle.std.proofs.lemmas.List.{length-replicate}
 use Rattle.std.specs.Prelude.{List, slice_index_or}
-use Rattle.fab_model.specs.declared.rows.Lid.{Lid}
-use Rattle.fab_model.specs.Topology.{lids_of}
 use Rattle.fab_certify.proofs.CollectingStarts.{from_no_routes, one_lid_more, are_dependencies}
 use Rattle.fab_certify.proofs.LidsInUse.{lid_there, all_lids}
 use Rattle.fab_certify.proofs.collecting.collect.Goals as goal
