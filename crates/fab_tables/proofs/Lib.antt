@@ -31,5 +31,12 @@ pub mod Ways
 pub mod HopsTaken
 pub mod RouteFaults
 pub mod StartsSorted
+pub mod FirstStarts
 pub mod LevelsLow
 pub mod StartFaults
+pub mod SoughtFaults
+pub mod Reached
+pub mod RoutesBehind
+pub mod HopFaults
+pub mod HopsJudged
+pub mod Judged
