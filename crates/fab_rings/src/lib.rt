@@ -7,6 +7,7 @@ mod nearness;
 mod neighbours;
 mod ring;
 mod rings;
+mod strong_components;
 
 pub use graph::Graph;
 pub use layers::levels;
