@@ -4,3 +4,4 @@ pub mod Layers
 pub mod Nearness
 pub mod StrongComponents
 pub mod PathSearch
+pub mod Numbering
