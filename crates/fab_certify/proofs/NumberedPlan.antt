@@ -15,7 +15,7 @@ use Rattle.fab_tables.specs.Fit.{LanesFit}
 use Rattle.fab_tables.specs.Dependencies.{IsUsed, Depends, DependsByNode, node_of}
 use Rattle.fab_tables.specs.Certified.{number_of}
 use Rattle.fab_certify.specs.Collected.{Collected, AreDependencies}
-use Rattle.fab_certify.specs.EdgeList.{AreNodeLevels}
+use Rattle.fab_rings.specs.EdgeList.{AreNodeLevels}
 use Rattle.fab_certify.specs.Numbers.{number_given, HasNumbers}
 use Rattle.fab_certify.specs.Numbered.{IsNumberedBy, IsSound}
 use Rattle.fab_certify.proofs.CollectingHops.{node_low}

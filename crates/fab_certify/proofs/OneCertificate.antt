@@ -1,7 +1,7 @@
 -- A plan has one certificate.
-use Rattle.std.proofs.Common.{◌≡◌, ℕ, ◌*◌, ◌<◌, List, [], ◌∷◌, length, refl, sym, ◌∙◌, ap, subst, inl, inr, ◌⊎◌, arith, Some, None}
-use Rattle.std.specs.Prelude.{slice_get, slice_index, slice_index_or, nat_lt}
-use Rattle.std.proofs.lemmas.Bool.{cases_eq, cases_order, cond-true, lt-ltb}
+use Rattle.std.proofs.Common.{◌≡◌, ℕ, ◌<◌, List, [], ◌∷◌, length, refl, sym, ◌∙◌, ap, subst, inl, inr, ◌⊎◌, arith, Some, None}
+use Rattle.std.specs.Prelude.{slice_get, slice_index}
+use Rattle.std.proofs.lemmas.Bool.{cases_order}
 use Rattle.std.proofs.lemmas.Option.{same_Some, none-some}
 use Rattle.fab_graph.proofs.Graphs
 use Rattle.fab_graph.proofs.Same
@@ -13,12 +13,11 @@ use Rattle.fab_tables.specs.declared.plan.Plan.{Plan}
 use Rattle.fab_tables.specs.declared.verdict.VirtualChannel.{VirtualChannel}
 use Rattle.fab_tables.specs.declared.verdict.Verdict.{Verdict}
 use Rattle.fab_tables.specs.declared.verdict.Verdict.TheVariants.{Routes, Lanes, Unreached, NoLevel, BadLane, NoNumber, NotRising}
-use Rattle.fab_tables.specs.Entries.{Entries, cell}
+use Rattle.fab_tables.specs.Entries.{Entries}
 use Rattle.fab_tables.specs.LaneTables.{LaneTables, level}
 use Rattle.fab_tables.specs.Route.{route}
-use Rattle.fab_tables.specs.VirtualChannels.{virtual_channel, at_level}
+use Rattle.fab_tables.specs.VirtualChannels.{at_level}
 use Rattle.fab_tables.specs.Dependencies.{IsUsed, Depends, DependsByNode, node_of}
-use Rattle.fab_tables.specs.Certified.{number_of}
 use Rattle.fab_tables.specs.First.{IsBefore}
 use Rattle.fab_tables.specs.Verdicts.{IsHop, Leaves, IsLaneFaultAt, IsFaultAt, IsStructural, IsRefusal}
 use Rattle.fab_tables.proofs.RouteFaults.{IsUnreached, unreached}
@@ -32,7 +31,7 @@ use Rattle.fab_certify.specs.Laws.{OneCertificate}
 use Rattle.fab_certify.proofs.Numbering.{numbers_aside}
 use Rattle.fab_certify.proofs.Plainly.{refusal_is_unsound}
 use Rattle.fab_certify.proofs.Refusals.{either}
-use Rattle.fab_certify.proofs.SameLanes.{same_cells, same_lanes}
+use Rattle.fab_certify.proofs.SameLanes.{same_lanes, same_numbers}
 use Rattle.fab_certify.proofs.ReadAlike.{renumbered, used_aside, used_back, same_depends, sound_aside, numbered_is_acyclic, ring_is_cyclic}
 
 -- of two places one comes first, unless they are the same
@@ -145,25 +144,11 @@ module _ (t : Topology) (e : Entries) (l : LaneTables) where
 
   -- the numbers are levels, and 0 elsewhere
   module _ (m n : LaneTables) (x : IsNumbered m) (y : IsNumbered n) where
-    one_number : (v : VirtualChannel) → number_of m v ≡ number_of n v
-    one_number v = elim (cases_eq (number_of m v) (number_of n v)) [
-      | inl same ↦ same
-      | inr other ↦
-          (let unused : ¬ IsUsed t e l v = λ u. other (x.numbers v u ∙ Graphs.one_level (Depends t e l) x.level y.level x.levels y.levels v ∙ sym (y.numbers v u)) in
-          absurd (other (x.others v unused ∙ sym (y.others v unused))))
-    ]
-
-    whole : (k : LaneTables) → IsNumbered k → length k.numbers ≡ l.channels * 15
-    whole k z = z.whole.all_numbers ∙ ap (λ (a : LaneTables). a.channels * 15) z.same
-
-    number_at : (k : LaneTables) (c lane : ℕ) → lane < 15 → slice_index_or k.numbers (cell 15 c lane) 0 ≡ number_of k (virtual_channel c lane)
-    number_at k c lane low = sym (cond-true (nat_lt lane 15) (slice_index_or k.numbers (cell 15 c lane) 0) 0 (lt-ltb lane 15 low))
-
     one_numbering : m ≡ n
     one_numbering = x.same ∙ ap (λ ns. renumbered l ns) numbers ∙ sym y.same
       where
         numbers : m.numbers ≡ n.numbers
-        numbers = same_cells m.numbers n.numbers l.channels 15 0 (whole m x) (whole n y) (λ c lane a b. number_at m c lane b ∙ one_number (virtual_channel c lane) ∙ sym (number_at n c lane b))
+        numbers = same_numbers (IsUsed t e l) (Depends t e l) l l m n (ap (λ (k : LaneTables). k.channels) x.same ∙ sym (ap (λ (k : LaneTables). k.channels) y.same)) x y
 
   abbrev IsPlan : Plan → Type 0
   IsPlan new = IsNumberedPlan (IsUsed t e l) (Depends t e l) e l new

@@ -1,118 +1,29 @@
--- One lane is made switch by switch, and level by level.
-use Rattle.std.proofs.Common.{◌≡◌, ◌≢◌, ℕ, ◌+◌, ◌*◌, ◌<◌, ◌≤◌, List, length, replicate, refl, sym, ◌∙◌, ap, subst, inl, inr, ◌⊎◌, arith, Some, None, Option, Contains, slice_get, length-set}
-use Rattle.std.specs.Prelude.{◌==◌, ◌&&◌, nat_lt, if◌then◌else◌, slice_index_or}
-use Rattle.std.proofs.lemmas.Bool.{cases_lt, cases_eq, eq-eqb, ne_eqb, and_from, and_left, and_right, cond-true, cond-false, lt-ltb, le-ltb}
-use Rattle.std.proofs.lemmas.List.{get_or-replicate, get_or_past, length-replicate}
-use Rattle.std.proofs.lemmas.List.Elements.{All-set, All-nil, All-contains}
+-- The lanes of a plan that has none have their levels LID by LID, and start by start.
+use Rattle.std.proofs.Common.{◌≡◌, ℕ, ◌+◌, ◌<◌, ◌≤◌, List, length, refl, sym, ◌∙◌, ap, subst, inl, inr, ◌⊎◌, arith, Some, None, Option, Contains, slice_get}
+use Rattle.std.specs.Prelude.{◌==◌, ◌&&◌, if◌then◌else◌}
+use Rattle.std.proofs.lemmas.Bool.{cases_lt, cases_eq, eq-eqb, ne_eqb, and_from, and_left, and_right, cond-true, cond-false}
+use Rattle.std.proofs.lemmas.List.Elements.{All-contains}
 use Rattle.std.proofs.lemmas.Option.{same_Some, slice_get_within, get_or_from_slice_get}
 use Rattle.fab_model.specs.declared.rows.TerminalRow.{TerminalRow}
 use Rattle.fab_model.specs.Topology.{Topology, lids_of}
 use Rattle.fab_model.specs.Connected.{IsConnectedTo}
 use Rattle.fab_model.specs.WellFormed.{IsFabric}
 use Rattle.fab_tables.specs.Entries.{index_of, cell}
-use Rattle.fab_tables.specs.LaneTables.{LaneTables, AreLaneTables, HasLanePerLevel, lane_of_level, no_lanes, level, level_in_column, lane, with_level, with_level_in_column, with_lane}
-use Rattle.fab_tables.specs.Fit.{LanesFit, IsSource, PairFits}
+use Rattle.fab_tables.specs.LaneTables.{LaneTables, HasLanePerLevel, level, with_level, with_level_in_column}
+use Rattle.fab_tables.specs.Fit.{LanesFit, IsSource}
 use Rattle.fab_tables.specs.Dependencies.{IsOneLane}
-use Rattle.fab_tables.proofs.Ascending.{lids_are}
-use Rattle.fab_tables.proofs.LaneSets.{new_kept, level_set_kept}
-use Rattle.fab_tables.proofs.LanesChange.{one_lane_changes}
+use Rattle.fab_tables.proofs.LaneSets.{level_set_kept}
 use Rattle.fab_tables.proofs.Cells.{one_level_changes}
 use Rattle.fab_tables.proofs.PlainLaws.{source_of, terminal_of}
 use Rattle.fab_tables.proofs.CertifiedLaws.{get_of}
 use Rattle.fab_tables.specs.declared.starts.Start.{Start}
 use Rattle.fab_tables.specs.Starts.{start_of, IsOfTerminal, AreStarts}
 use Rattle.fab_tables.proofs.Lids.{connected_in_use}
-use Rattle.fab_certify.specs.OneLane.{IsMapping, IsLeveling, KeepsLevels, HasLevelsFor}
+use Rattle.fab_certify.specs.EnginePlans.{AreEngineLanes}
+use Rattle.fab_certify.specs.OneLane.{IsLeveling, KeepsLevels, HasLevelsFor}
 
--- in a list of one element each place has that element
-all_alike : {A : Type 0} (n i : ℕ) (x : A) → slice_index_or (replicate n x) i x ≡ x
-all_alike n i x = elim (cases_lt i n) [ inl low ↦ get_or-replicate n i x x low | inr past ↦ get_or_past (replicate n x) i x (omega (arith, length-replicate n x)) ]
-
-module _ (t : Topology) (fabric : IsFabric t) where
-  abbrev first : LaneTables
-  first = no_lanes 1 (length t.switches) (length t.channels) (lids_of t)
-
-  pub mapping_begins : IsMapping t first 0
-  mapping_begins = record {
-    fits = record { whole = new_kept 1 (length t.switches) (length t.channels) (lids_of t) (omega arith, omega arith) (lids_are t fabric); switches = refl; channels = refl; in_use = refl; pairs = All-nil (PairFits t) };
-    count = refl;
-    no_pair = refl;
-    no_level = λ s lid. none s (index_of lid (lids_of t));
-    general = λ s of_level low few. all_alike (length t.switches * 16) (s * 16 + of_level) 15 ∙ sym (cond-false (nat_lt s 0) (lane_of_level 1 of_level) 15 (le-ltb s 0 (omega arith)));
-  }
-    where
-      none : (s : ℕ) (o : Option ℕ) → level_in_column first s o ≡ None
-      none s None = refl
-      none s (Some i) = all_alike (length t.switches * length (lids_of t)) (s * length (lids_of t) + i) None
-
-lane_kept : (l : LaneTables) (s of_level new : ℕ) → AreLaneTables l → new < 16 → AreLaneTables (with_lane l s of_level new)
-lane_kept l s of_level new are low = record {
-  count = are.count;
-  ascending = are.ascending;
-  all_levels = are.all_levels;
-  few_levels = are.few_levels;
-  all_general = length-set l.general (s * 16 + of_level) new ∙ are.all_general;
-  lanes = All-set (λ n. n < 16) l.general (s * 16 + of_level) new low are.lanes;
-  in_order = are.in_order;
-  few_pairs = are.few_pairs;
-  pairs = are.pairs;
-  all_numbers = are.all_numbers;
-  few_numbers = are.few_numbers;
-}
-
-pub one_more_mapped : (t : Topology) (l : LaneTables) (switch : ℕ) → IsMapping t l switch → switch < length t.switches → IsMapping t (with_lane l switch 0 0) (switch + 1)
-one_more_mapped t l switch so_far low = record {
-  fits = record { whole = lane_kept l switch 0 0 so_far.fits.whole (omega arith); switches = so_far.fits.switches; channels = so_far.fits.channels; in_use = so_far.fits.in_use; pairs = so_far.fits.pairs };
-  count = so_far.count;
-  no_pair = so_far.no_pair;
-  no_level = so_far.no_level;
-  general = λ s of_level there few. changed s of_level few ∙ now_at s of_level there few;
-}
-  where
-    changed : (s of_level : ℕ) → of_level < 16 → lane (with_lane l switch 0 0) s of_level ≡ (if (s == switch) && (of_level == 0) then 0 else lane l s of_level)
-    changed s of_level few = one_lane_changes l switch 0 0 s of_level so_far.fits.whole (omega (arith, so_far.fits.switches)) (omega arith) few
-
-    wanted : ℕ → ℕ → ℕ
-    wanted s of_level = if nat_lt s (switch + 1) then lane_of_level 1 of_level else 15
-
-    now_at : (s of_level : ℕ) → s < l.switches → of_level < 16 → (if (s == switch) && (of_level == 0) then 0 else lane l s of_level) ≡ (if nat_lt s (switch + 1) then lane_of_level 1 of_level else 15)
-    now_at s of_level there few = elim (cases_eq s switch) [
-      | inr other ↦
-          cond-false ((s == switch) && (of_level == 0)) 0 (lane l s of_level) (and_left (s == switch) (of_level == 0) (ne_eqb s switch other)) ∙ so_far.general s of_level there few
-          ∙ ap (λ b. if b then lane_of_level 1 of_level else 15) (by_other s other)
-      | inl same ↦ elim (cases_eq of_level 0) [
-        | inl nought ↦
-            cond-true ((s == switch) && (of_level == 0)) 0 (lane l s of_level) (and_from (s == switch) (of_level == 0) (eq-eqb s switch same) (eq-eqb of_level 0 nought))
-            ∙ sym (cond-true (nat_lt s (switch + 1)) (lane_of_level 1 of_level) 15 (lt-ltb s (switch + 1) (omega arith)) ∙ cond-true (nat_lt of_level 1) of_level 15 (lt-ltb of_level 1 (omega arith)) ∙ nought)
-        | inr some ↦
-            cond-false ((s == switch) && (of_level == 0)) 0 (lane l s of_level) (and_right (s == switch) (of_level == 0) (ne_eqb of_level 0 some)) ∙ so_far.general s of_level there few
-            ∙ cond-false (nat_lt s switch) (lane_of_level 1 of_level) 15 (le-ltb s switch (omega (arith, same)))
-            ∙ sym (cond-true (nat_lt s (switch + 1)) (lane_of_level 1 of_level) 15 (lt-ltb s (switch + 1) (omega arith)) ∙ cond-false (nat_lt of_level 1) of_level 15 (le-ltb of_level 1 (omega (arith, some))))
-      ]
-    ]
-      where
-        by_other : (x : ℕ) → x ≢ switch → nat_lt x switch ≡ nat_lt x (switch + 1)
-        by_other x ne = elim (cases_lt x switch) [
-          | inl less ↦ lt-ltb x switch less ∙ sym (lt-ltb x (switch + 1) (omega arith))
-          | inr not ↦ le-ltb x switch not ∙ sym (le-ltb x (switch + 1) (omega arith))
-        ]
-
-pub all_mapped : (t : Topology) (l : LaneTables) (switch : ℕ) → IsMapping t l switch → switch ≡ length t.switches → IsMapping t l (length t.switches)
-all_mapped t l switch so_far e = subst (IsMapping t l) e so_far
-
--- all switches have the map of one lane, and there are no levels yet
-pub leveling_begins : (t : Topology) (l : LaneTables) → IsMapping t l (length t.switches) → IsLeveling t l
-leveling_begins t l mapped = record {
-  fits = mapped.fits;
-  count = mapped.count;
-  maps = record { general = general; no_pair = mapped.no_pair };
-  only = λ s lid. inl (mapped.no_level s lid);
-}
-  where
-    general : (s of_level : ℕ) → s < l.switches → of_level < 16 → lane l s of_level ≡ lane_of_level l.count of_level
-    general s of_level low few =
-        mapped.general s of_level low few ∙ cond-true (nat_lt s (length t.switches)) (lane_of_level 1 of_level) 15 (lt-ltb s (length t.switches) (omega (arith, low, mapped.fits.switches)))
-        ∙ ap (λ n. lane_of_level n of_level) (sym mapped.count)
+pub leveling_begins : (t : Topology) (l : LaneTables) → AreEngineLanes t 1 l → IsLeveling t l
+leveling_begins t l lanes = record { fits = lanes.fits; count = lanes.lane_count; maps = lanes.maps; only = λ s lid. inl (lanes.no_level s lid) }
 
 -- a level is set
 module _ (t : Topology) (l : LaneTables) (s lid : ℕ) (so_far : IsLeveling t l) (low : s < length t.switches) (in_use : Contains (lids_of t) lid) (source : IsSource t s) (connected : IsConnectedTo t s lid) where

@@ -1,20 +1,25 @@
--- The lanes with which a plan is read differ in nothing but their numbers.
+-- Lanes that differ in nothing but their numbers, and lanes whose numbers are the same.
 use Rattle.std.proofs.Common.{◌≡◌, ℕ, ◌*◌, ◌/◌, ◌%◌, ◌<◌, ◌≤◌, List, length, refl, sym, ◌∙◌, ap, subst, inl, inr, ◌⊎◌, arith, Some, None, Option}
-use Rattle.std.specs.Prelude.{slice_get, slice_index_or}
+use Rattle.std.specs.Prelude.{slice_get, slice_index_or, nat_lt}
 use Rattle.std.specs.List.Sorted.{IsStrictlyIncreasing}
-use Rattle.std.proofs.lemmas.Bool.{cases_eq, cases_lt, cases_order}
+use Rattle.std.proofs.lemmas.Bool.{cases_eq, cases_lt, cases_order, cond-true, lt-ltb}
 use Rattle.std.proofs.lemmas.List.{ext_get_or, get_or_default}
 use Rattle.std.proofs.lemmas.List.Kept.{AllPairs-from_increasing}
 use Rattle.std.proofs.lemmas.Nat.{div-add-mod', div_below, mod_below}
 use Rattle.std.proofs.lemmas.Option.{same_Some, none-some, get_or_from_slice_get}
+use Rattle.fab_graph.proofs.Graphs.{one_level}
 use Rattle.fab_model.specs.Topology.{Topology, lids_of}
 use Rattle.fab_model.specs.Connected.{IsConnectedTo}
 use Rattle.fab_tables.specs.Entries.{index_of, cell}
 use Rattle.fab_tables.specs.declared.lanes.PairRow.{PairRow}
-use Rattle.fab_tables.specs.LaneTables.{LaneTables, level, level_in_column, lane, lane_of_level}
-use Rattle.fab_tables.specs.Fit.{IsSource}
+use Rattle.fab_tables.specs.declared.verdict.VirtualChannel.{VirtualChannel}
+use Rattle.fab_tables.specs.LaneTables.{LaneTables, level, level_in_column, lane, lane_of_level, HasLanePerLevel}
+use Rattle.fab_tables.specs.Fit.{LanesFit, IsSource}
+use Rattle.fab_tables.specs.VirtualChannels.{virtual_channel}
+use Rattle.fab_tables.specs.Certified.{number_of}
 use Rattle.fab_tables.specs.Dependencies.{IsOneLane, AreReadLanes}
 use Rattle.fab_tables.proofs.Cells.{index_found, index_there}
+use Rattle.fab_certify.specs.Numbered.{IsNumberedBy}
 
 -- a list of rows, one after the other, is given by its cells
 pub same_cells : {A : Type 0} (xs ys : List A) (rows width : ℕ) (d : A) → length xs ≡ rows * width → length ys ≡ rows * width →
@@ -28,7 +33,7 @@ same_cells xs ys rows width d whole_x whole_y same = ext_get_or d xs ys (whole_x
         nought : width ≡ 0
         nought = omega (arith, none)
 
-same_or_other : (a b : Option ℕ) → (a ≡ b) ⊎ (a ≡ b → ⊥)
+pub same_or_other : (a b : Option ℕ) → (a ≡ b) ⊎ (a ≡ b → ⊥)
 same_or_other None None = inl refl
 same_or_other None (Some n) = inr (none-some n)
 same_or_other (Some m) None = inr (λ e. none-some m (sym e))
@@ -56,47 +61,66 @@ same_tables : (count switches channels : ℕ) (in_use : List ℕ) (levels : List
     m ≡ record { count = count; switches = switches; channels = channels; in_use = in_use; levels = levels; general = general; pairs = pairs; numbers = m.numbers }
 same_tables count switches channels in_use levels general pairs m a b c d e f g = rw (sym a, sym b, sym c, sym d, sym e, sym f, sym g) refl
 
--- two readings of a plan without lanes
-module _ (t : Topology) (l m : LaneTables) (x : IsOneLane t l) (y : IsOneLane t m) where
-  same_level : (s lid : ℕ) → level m s lid ≡ level l s lid
-  same_level s lid = elim (same_or_other (level m s lid) (level l s lid)) [
-    | inl same ↦ same
-    | inr other ↦
-        (let apart : ¬ (IsSource t s × IsConnectedTo t s lid) = λ both. other (y.level_0 s lid both.0 both.1 ∙ sym (x.level_0 s lid both.0 both.1)) in
-        absurd (other (y.no_level s lid apart ∙ sym (x.no_level s lid apart))))
-  ]
-
-  in_use : m.in_use ≡ l.in_use
-  in_use = y.fits.in_use ∙ sym x.fits.in_use
-
-  switches : m.switches ≡ l.switches
-  switches = y.fits.switches ∙ sym x.fits.switches
-
-  level_at : (k : LaneTables) (row i : ℕ) → IsOneLane t k → i < length (lids_of t) → slice_index_or k.levels (cell (length (lids_of t)) row i) None ≡ level k row (slice_index_or (lids_of t) i 0)
+-- lanes that fit, with the engines' maps and the same levels, differ in their numbers alone
+module _ (t : Topology) (l m : LaneTables) (x : LanesFit t l) (y : LanesFit t m) (count : l.count ≡ m.count) (maps_l : HasLanePerLevel l) (maps_m : HasLanePerLevel m)
+    (same : (s lid : ℕ) → level l s lid ≡ level m s lid) where
+  level_at : (k : LaneTables) (row i : ℕ) → LanesFit t k → i < length (lids_of t) → slice_index_or k.levels (cell (length (lids_of t)) row i) None ≡ level k row (slice_index_or (lids_of t) i 0)
   level_at k row i z low =
-      sym (ap (λ ns. level_in_column k row (index_of (slice_index_or (lids_of t) i 0) ns)) z.fits.in_use
-      ∙ ap (λ o. level_in_column k row o) (place_is (lids_of t) i (subst IsStrictlyIncreasing z.fits.in_use z.fits.whole.ascending) low)
-      ∙ ap (λ ns. slice_index_or k.levels (cell (length ns) row i) None) z.fits.in_use)
+      sym (ap (λ ns. level_in_column k row (index_of (slice_index_or (lids_of t) i 0) ns)) z.in_use
+      ∙ ap (λ o. level_in_column k row o) (place_is (lids_of t) i (subst IsStrictlyIncreasing z.in_use z.whole.ascending) low)
+      ∙ ap (λ ns. slice_index_or k.levels (cell (length ns) row i) None) z.in_use)
 
   levels : m.levels ≡ l.levels
-  levels = same_cells m.levels l.levels (length t.switches) (length (lids_of t)) None (whole m y) (whole l x)
-      (λ row i a b. level_at m row i y b ∙ same_level row (slice_index_or (lids_of t) i 0) ∙ sym (level_at l row i x b))
+  levels = same_cells m.levels l.levels (length t.switches) (length (lids_of t)) None (all_levels m y) (all_levels l x)
+      (λ row i a b. level_at m row i y b ∙ sym (same row (slice_index_or (lids_of t) i 0)) ∙ sym (level_at l row i x b))
     where
-      whole : (k : LaneTables) → IsOneLane t k → length k.levels ≡ length t.switches * length (lids_of t)
-      whole k z = z.fits.whole.all_levels ∙ ap (λ n. n * length k.in_use) z.fits.switches ∙ ap (λ ns. length t.switches * length ns) z.fits.in_use
+      all_levels : (k : LaneTables) → LanesFit t k → length k.levels ≡ length t.switches * length (lids_of t)
+      all_levels k z = z.whole.all_levels ∙ ap (λ n. n * length k.in_use) z.switches ∙ ap (λ ns. length t.switches * length ns) z.in_use
 
   general : m.general ≡ l.general
-  general = same_cells m.general l.general (length t.switches) 16 15 (whole m y) (whole l x) (λ row i a b. mapped m row i y a b ∙ sym (mapped l row i x a b))
+  general = same_cells m.general l.general (length t.switches) 16 15 (all_general m y) (all_general l x)
+      (λ row i a b. mapped m row i y maps_m a b ∙ ap (λ n. lane_of_level n i) (sym count) ∙ sym (mapped l row i x maps_l a b))
     where
-      whole : (k : LaneTables) → IsOneLane t k → length k.general ≡ length t.switches * 16
-      whole k z = z.fits.whole.all_general ∙ ap (λ n. n * 16) z.fits.switches
+      all_general : (k : LaneTables) → LanesFit t k → length k.general ≡ length t.switches * 16
+      all_general k z = z.whole.all_general ∙ ap (λ n. n * 16) z.switches
 
-      mapped : (k : LaneTables) (row i : ℕ) → IsOneLane t k → row < length t.switches → i < 16 → lane k row i ≡ lane_of_level 1 i
-      mapped k row i z a b = z.maps.general row i (omega (arith, a, z.fits.switches)) b ∙ ap (λ n. lane_of_level n i) z.count
+      mapped : (k : LaneTables) (row i : ℕ) → LanesFit t k → HasLanePerLevel k → row < length t.switches → i < 16 → lane k row i ≡ lane_of_level k.count i
+      mapped k row i z maps a b = maps.general row i (omega (arith, a, z.switches)) b
 
-  same_one_lane : m ≡ record l { numbers = m.numbers }
-  same_one_lane =
-      same_tables l.count l.switches l.channels l.in_use l.levels l.general l.pairs m (y.count ∙ sym x.count) switches (y.fits.channels ∙ sym x.fits.channels) in_use levels general (y.maps.no_pair ∙ sym x.maps.no_pair)
+  pub same_but_numbers : m ≡ record l { numbers = m.numbers }
+  same_but_numbers =
+      same_tables l.count l.switches l.channels l.in_use l.levels l.general l.pairs m (sym count) (y.switches ∙ sym x.switches) (y.channels ∙ sym x.channels) (y.in_use ∙ sym x.in_use) levels general
+      (maps_m.no_pair ∙ sym maps_l.no_pair)
+
+-- two readings of a plan without lanes
+same_one_lane : (t : Topology) (l m : LaneTables) → IsOneLane t l → IsOneLane t m → m ≡ record l { numbers = m.numbers }
+same_one_lane t l m x y = same_but_numbers t l m x.fits y.fits (x.count ∙ sym y.count) x.maps y.maps same_level
+  where
+    same_level : (s lid : ℕ) → level l s lid ≡ level m s lid
+    same_level s lid = elim (same_or_other (level l s lid) (level m s lid)) [
+      | inl same ↦ same
+      | inr other ↦
+          (let apart : ¬ (IsSource t s × IsConnectedTo t s lid) = λ both. other (x.level_0 s lid both.0 both.1 ∙ sym (y.level_0 s lid both.0 both.1)) in
+          absurd (other (x.no_level s lid apart ∙ sym (y.no_level s lid apart))))
+    ]
+
+-- lanes that are numbered by the same dependencies have the same numbers
+module _ (used : VirtualChannel → Type 0) (depends : VirtualChannel → VirtualChannel → Type 0) (old_l old_m l m : LaneTables) (channels : l.channels ≡ m.channels)
+    (x : IsNumberedBy used depends old_l l) (y : IsNumberedBy used depends old_m m) where
+  one_number : (v : VirtualChannel) → number_of l v ≡ number_of m v
+  one_number v = elim (cases_eq (number_of l v) (number_of m v)) [
+    | inl same ↦ same
+    | inr other ↦
+        (let unused : ¬ used v = λ u. other (x.numbers v u ∙ one_level depends x.level y.level x.levels y.levels v ∙ sym (y.numbers v u)) in
+        absurd (other (x.others v unused ∙ sym (y.others v unused))))
+  ]
+
+  number_at : (k : LaneTables) (c lane : ℕ) → lane < 15 → slice_index_or k.numbers (cell 15 c lane) 0 ≡ number_of k (virtual_channel c lane)
+  number_at k c lane low = sym (cond-true (nat_lt lane 15) (slice_index_or k.numbers (cell 15 c lane) 0) 0 (lt-ltb lane 15 low))
+
+  pub same_numbers : l.numbers ≡ m.numbers
+  same_numbers = same_cells l.numbers m.numbers l.channels 15 0 x.whole.all_numbers (y.whole.all_numbers ∙ ap (λ n. n * 15) (sym channels))
+      (λ c lane a b. number_at l c lane b ∙ one_number (virtual_channel c lane) ∙ sym (number_at m c lane b))
 
 pub same_lanes : (t : Topology) (o : Option LaneTables) (l m : LaneTables) → AreReadLanes t o l → AreReadLanes t o m → m ≡ record l { numbers = m.numbers }
 same_lanes t None l m x y = same_one_lane t l m x y

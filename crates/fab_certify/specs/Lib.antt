@@ -1,12 +1,10 @@
-pub mod EdgeList
-pub mod Neighbours
-pub mod Layers
-pub mod Nearness
 pub mod Numbered
 pub mod Certificate
 pub mod EnginePlans
 pub mod Laws
 pub mod Structural
+pub mod LevelMarks
 pub mod Collected
 pub mod Numbers
 pub mod OneLane
+pub mod Mapping

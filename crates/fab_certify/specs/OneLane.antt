@@ -1,17 +1,9 @@
--- The lanes of a plan that has none are made switch by switch and level by level.
-use Rattle.std.specs.Prelude.{◌≡◌, ℕ, ◌<◌, ◌⊎◌, nat_lt, if◌then◌else◌, [], Some, None}
+-- The lanes of a plan that has none: the engines' maps for one lane, with a level given to each source, LID by LID.
+use Rattle.std.specs.Prelude.{◌≡◌, ℕ, ◌⊎◌, Some, None}
 use Rattle.fab_model.specs.Topology.{Topology}
 use Rattle.fab_model.specs.Connected.{IsConnectedTo}
 use Rattle.fab_tables.specs.Fit.{LanesFit, IsSource}
-use Rattle.fab_tables.specs.LaneTables.{LaneTables, HasLanePerLevel, lane_of_level, level, lane}
-
--- the switches below this one put level 0 on lane 0, and there is no level yet
-pub record IsMapping (t : Topology) (l : LaneTables) (switch : ℕ) : Type 0 where
-  pub fits : LanesFit t l
-  pub count : l.count ≡ 1
-  pub no_pair : l.pairs ≡ []
-  pub no_level : (s lid : ℕ) → level l s lid ≡ None
-  pub general : (s of_level : ℕ) → s < l.switches → of_level < 16 → lane l s of_level ≡ (if nat_lt s switch then lane_of_level 1 of_level else 15)
+use Rattle.fab_tables.specs.LaneTables.{LaneTables, HasLanePerLevel, level}
 
 -- a level is given to a source and a LID connected to it alone, and it is 0
 pub record IsLeveling (t : Topology) (l : LaneTables) : Type 0 where

@@ -1,27 +1,22 @@
-//! Rings and levels of graphs, and the numbers that certify a plan.
+//! The numbers that certify a plan: packets that hold one virtual channel and wait for the next never wait in a
+//! ring where the numbers rise along every route (Dally and Seitz).
 #![tactic(auto)]
 
 mod certified;
 mod collecting;
 mod dependencies;
-mod graph;
 mod hops;
+mod lane_per_level;
 mod lanes;
 mod laws;
-mod layers;
-mod nearness;
-mod neighbours;
+mod level_marks;
 mod numbers;
 mod one_lane;
-mod ring;
-mod rings;
 
 pub use certified::{Certified, certify};
-pub use graph::Graph;
+pub use fab_rings::{Graph, Ring, first_ring, levels};
+pub use lane_per_level::engine_lanes;
 pub use laws::{numbered_is_certified, one_certificate, plain_certificate, refusal_is_unsound};
-pub use layers::levels;
-pub use ring::Ring;
-pub use rings::first_ring;
 
 #[cfg(test)]
 mod tests;

@@ -1,12 +1,14 @@
-// The lanes with which a plan without lanes is read.
-ghost use Rattle.std.specs.Prelude.{◌≡◌, IfOk, length, Contains};
+//! The lanes with which a plan without lanes is read: one lane, on which every packet goes, as engines write it
+//! that need no more. It takes a step for each LID and each start, and memory for each switch and LID.
+ghost use Rattle.std.specs.Prelude.{◌≡◌, IfOk, Contains};
 ghost use Rattle.fab_model.specs.WellFormed.{IsFabric};
 ghost use Rattle.fab_model.specs.Topology.{lids_of};
 ghost use Rattle.fab_tables.specs.Dependencies.{IsOneLane};
 ghost use Rattle.fab_tables.specs.Starts.{AreStarts};
-ghost use Rattle.fab_certify.specs.OneLane.{IsMapping, IsLeveling, KeepsLevels, HasLevelsFor};
+ghost use Rattle.fab_certify.specs.OneLane.{IsLeveling, KeepsLevels, HasLevelsFor};
 
-use fab_model::{Fabric, Lid, SwitchId};
+use crate::lane_per_level::engine_lanes;
+use fab_model::{Fabric, Lid};
 use fab_tables::{Components, Lanes, Start};
 use std::alloc::{AllocError, Global};
 
@@ -21,22 +23,9 @@ pub(crate) fn one_lane(
     requires starts { AreStarts fabric.now starts.now }
     ensures { IfOk result (IsOneLane fabric.now) }
 {
-    let mut lanes = without_levels(alloc, fabric)?;
-    for index in 0..fabric.lids() {
-        if let Some(lid) = fabric.lid_at(index) {
-            set_levels(fabric, lid, components, starts, &mut lanes);
-        }
-    }
-    Ok(lanes)
-}
-
-/// One lane without levels.
-fn without_levels(alloc: Global, fabric: &Fabric) -> Result<Lanes, AllocError>
-    ensures { IfOk result (λ l. IsMapping fabric.now l (length fabric.now.switches)) }
-{
-    let mut lanes = Lanes::new(alloc, fabric, 1)?;
-    for switch in 0..fabric.switches() {
-        lanes.set_lane(SwitchId(switch), 0, 0);
+    let mut lanes = engine_lanes(alloc, fabric, 1)?;
+    for lid in fabric.lids_in_use() {
+        set_levels(fabric, *lid, components, starts, &mut lanes);
     }
     Ok(lanes)
 }

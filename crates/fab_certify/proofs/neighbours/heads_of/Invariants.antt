@@ -1,7 +1,0 @@
--- Each edge so far stands in the list of its tail.
-use Rattle.std.proofs.Common.{take}
-use Rattle.fab_certify.specs.Neighbours.{successors_of, AreNeighbours}
-use Rattle.fab_certify.proofs.neighbours.heads_of.Given as goal
-
-abbrev pub invariant-loop-edge : goal.invariant-loop-edge
-invariant-loop-edge l = AreNeighbours l.graph.nodes (successors_of (take l.edge-index l.edge-items)) l.heads

@@ -1,7 +1,0 @@
--- Each edge so far stands in the list of its head.
-use Rattle.std.proofs.Common.{take}
-use Rattle.fab_certify.specs.Neighbours.{predecessors_of, AreNeighbours}
-use Rattle.fab_certify.proofs.neighbours.tails_of.Given as goal
-
-abbrev pub invariant-loop-edge : goal.invariant-loop-edge
-invariant-loop-edge l = AreNeighbours l.graph.nodes (predecessors_of (take l.edge-index l.edge-items)) l.tails
