@@ -1,5 +1,5 @@
 -- Of starts in order, the first of each source.
-use Rattle.std.proofs.Common.{◌≡◌, ℕ, ◌+◌, ◌<◌, ◌≤◌, List, [], ◌∷◌, ◌++◌, length, refl, sym, ◌∙◌, ap, subst, inl, inr, ◌⊎◌, arith, Some, None, Option, Contains, slice_get}
+use Rattle.std.proofs.Common.{◌≡◌, ℕ, ◌+◌, ◌<◌, ◌≤◌, List, [], ◌∷◌, ◌++◌, length, refl, sym, ◌∙◌, ap, subst, inl, inr, arith, Some, None, Option, Contains, slice_get}
 use Rattle.std.specs.Prelude.{All, slice_index_or}
 use Rattle.std.proofs.lemmas.Bool.{cases_lt}
 use Rattle.std.proofs.lemmas.List.{get_or_append_left, get_or_push, length_push}
@@ -10,7 +10,7 @@ use Rattle.fab_model.specs.declared.rows.TerminalRow.{TerminalRow}
 use Rattle.fab_model.specs.Topology.{Topology}
 use Rattle.fab_tables.specs.declared.starts.Start.{Start}
 use Rattle.fab_tables.specs.LaneTables.{LaneTables}
-use Rattle.fab_tables.specs.Starts.{start_of, StartsNotAfter, IsOfTerminal, AreStarts, AreFirsts, HasFirst, StandsFor, AreStartsFor, IsInOrder, StartLists, AreAllStarts}
+use Rattle.fab_tables.specs.Starts.{start_of, StartsNotAfter, IsOfTerminal, AreFirsts, HasFirst, StandsFor, AreStartsFor, IsInOrder, StartLists, AreAllStarts}
 
 -- the first starts of those so far, and the last source
 pub record AreFirstsSoFar (starts firsts : List Start) (index : ℕ) (source : Option SwitchId) : Type 0 where
