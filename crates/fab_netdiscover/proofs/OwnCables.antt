@@ -2,6 +2,7 @@
 use Rattle.std.proofs.Common.{◌≡◌, ◌≢◌, ◌<◌, ◌≤◌, ◌+◌, ◌-◌, ℕ, zero, suc, Bool, true, false, cond, not, ◌&&◌, ◌||◌, List, [], ◌∷◌, ◌++◌, map, filter, Option, Some, None, length, drop, get_or, refl, sym, subst, ap, ◌∙◌, arith}
 use Rattle.std.specs.Prelude.{Result, Ok, Err, IfOk, All, ◌==◌, slice_get, option_map, filter_map}
 use Rattle.std.specs.List.{list_any, cons_option, prefix_len, position_or_len}
+use Rattle.std.proofs.lemmas.Bool.{and_parts}
 use Rattle.std.proofs.lemmas.List.Elements.{All-nil, All-cons, All-head, All-tail, All-push, All-weaker, All-map, All-filter, filter_passes}
 use Rattle.std.proofs.lemmas.List.Folds.{list_any_at}
 use Rattle.std.proofs.lemmas.List.Sums.{prefix_len_stops}
@@ -234,18 +235,10 @@ IsApart row = row.tail.0 ≢ row.tip.0
 abbrev joins_switches : Stated → Bool
 joins_switches one = is_switch one.node.kind && is_switch one.link.far_kind
 
-and_first : (a b : Bool) → (a && b) ≡ true → a ≡ true
-and_first true b e = refl
-and_first false b e = cc
-
-and_second : (a b : Bool) → (a && b) ≡ true → b ≡ true
-and_second true b e = e
-and_second false b e = cc
-
 apart : (records : Records) (one : Stated) → IsKnown records.nodes one → joins_switches one ≡ true → IsApart (channel_row (switch_rows records) one)
 apart records one h e same =
-    let here : is_switch one.node.kind ≡ true = and_first _ _ e in
-    let there : is_switch one.link.far_kind ≡ true = and_second (is_switch one.node.kind) _ e in
+    let here : is_switch one.node.kind ≡ true = (and_parts (is_switch one.node.kind) (is_switch one.link.far_kind) e).0 in
+    let there : is_switch one.link.far_kind ≡ true = (and_parts (is_switch one.node.kind) (is_switch one.link.far_kind) e).1 in
     h.no_own here there (same_guid (switch_rows records) one.node.guid one.link.far_guid (has_row records one.node.guid (h.among here)) same)
 
 channels_apart : (records : Records) → HaveNoOwn records → All IsApart (channel_rows (switch_rows records) records)

@@ -16,7 +16,7 @@ use Rattle.fab_netdiscover.specs.Lines.{PortLine, line_kind, cabled_at, link_of,
 use Rattle.fab_netdiscover.specs.Writing.{name_text, port_text, far_end, port_guid_text, port_with_guid, in_quotes, address_text, described, guid16}
 use Rattle.fab_text.specs.Readings.{◌>>=◌}
 use Rattle.fab_netdiscover.specs.Fronts.{Read}
-use Rattle.fab_netdiscover.proofs.Spelled.{decimal_spells}
+use Rattle.fab_text.proofs.Spelled.{decimal_spells}
 use Rattle.fab_netdiscover.proofs.ReadParts.{cabled_read}
 use Rattle.fab_netdiscover.proofs.ReadTails.{marked_address}
 use Rattle.fab_netdiscover.proofs.ReadHeads.{onto, concat-onto}
