@@ -41,6 +41,7 @@ pub mod BuildingLinks
 pub mod FirstFaultLines
 pub mod FirstFaultRepeats
 pub mod FirstFaultEnds
+pub mod FirstFaultGuids
 pub mod FirstFaultStated
 pub mod FirstFaultLids
 pub mod FirstFault
