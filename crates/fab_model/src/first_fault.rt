@@ -1,4 +1,6 @@
-//! The first fault of raw records.
+//! The first fault of raw records. The faults are rows of a table, whose order is that of the search: nodes, links,
+//! LIDs; of one row the least line is told. For n records it takes O(n) time and memory, with hashing: one map from
+//! GUID to node serves the faults on GUIDs and on far ends, and sets and maps serve ports, sides of cables and LIDs.
 ghost use Rattle.std.specs.Prelude.{◌≡◌, ◌≤◌, ◌++◌, IfOk, length, count_by};
 ghost use Rattle.std.specs.List.{list_any};
 ghost use Rattle.fab_model.specs.Records.{is_switch};
