@@ -100,14 +100,14 @@ lane_kept l s of_level new are low = record {
   count = are.count;
   ascending = are.ascending;
   all_levels = are.all_levels;
-  few_levels = are.few_levels;
+  low_levels = are.low_levels;
   all_general = length-set l.general (s * 16 + of_level) new ∙ are.all_general;
   lanes = All-set (λ n. n < 16) l.general (s * 16 + of_level) new low are.lanes;
   in_order = are.in_order;
   few_pairs = are.few_pairs;
   pairs = are.pairs;
   all_numbers = are.all_numbers;
-  few_numbers = are.few_numbers;
+  low_numbers = are.low_numbers;
 }
 
 module _ (t : Topology) (count : ℕ) (l : LaneTables) (switch below : ℕ) (so_far : IsMapping t count l switch below) where

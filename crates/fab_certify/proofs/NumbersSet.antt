@@ -16,14 +16,14 @@ number_kept l c lane n are low = record {
   count = are.count;
   ascending = are.ascending;
   all_levels = are.all_levels;
-  few_levels = are.few_levels;
+  low_levels = are.low_levels;
   all_general = are.all_general;
   lanes = are.lanes;
   in_order = are.in_order;
   few_pairs = are.few_pairs;
   pairs = are.pairs;
   all_numbers = length-set l.numbers (c * 15 + lane) n ∙ are.all_numbers;
-  few_numbers = All-set (λ m. m < 2 ^ 32) l.numbers (c * 15 + lane) n low are.few_numbers;
+  low_numbers = All-set (λ m. m < 2 ^ 32) l.numbers (c * 15 + lane) n low are.low_numbers;
 }
 
 pub numbering_begins : (c : Collected) (levels : List ℕ) (l : LaneTables) → AreLaneTables l → IsNumbering c levels l l 0 0

@@ -65,7 +65,7 @@ module _ (t : Topology) (fabric : IsFabric t) where
 
   numbers_short : (l : LaneTables) → LanesFit t l → size (flat_map (number_lines t l) (enumerate_from 0 t.channels)) ≤ 288706560
   numbers_short l fit =
-      omega (arith, fabric.rows.channel_count, size_numbered (number_lines t l) (λ row. Unit {0}) 555 (λ c row any. numbers_size t l (number_fits t fabric l fit.whole.few_numbers) c row) 0 t.channels (λ k d h. tt))
+      omega (arith, fabric.rows.channel_count, size_numbered (number_lines t l) (λ row. Unit {0}) 555 (λ c row any. numbers_size t l (number_fits t fabric l fit.whole.low_numbers) c row) 0 t.channels (λ k d h. tt))
 
   lanes_short : (l : LaneTables) → LanesFit t l → size (lane_lines t l) ≤ 397182989
   lanes_short l fit =

@@ -14,8 +14,8 @@ entries_fit t e s port (Some i) low h = record {
   whole = record {
     ascending = h.whole.ascending;
     whole = length-set e.ports (cell (length e.in_use) s i) port ∙ h.whole.whole;
-    few_lids = h.whole.few_lids;
-    few_ports = All-set (λ p. p < 256) e.ports (cell (length e.in_use) s i) port low h.whole.few_ports;
+    low_lids = h.whole.low_lids;
+    low_ports = All-set (λ p. p < 256) e.ports (cell (length e.in_use) s i) port low h.whole.low_ports;
   };
   switches = h.switches;
   in_use = h.in_use;
@@ -27,8 +27,8 @@ no_entries_fit t h = record {
   whole = record {
     ascending = (lids_are t h).ascending;
     whole = length-replicate (length t.switches * length (lids_of t)) 255;
-    few_lids = (lids_are t h).fit;
-    few_ports = All-replicate (λ p. p < 256) (length t.switches * length (lids_of t)) 255 (omega arith);
+    low_lids = (lids_are t h).fit;
+    low_ports = All-replicate (λ p. p < 256) (length t.switches * length (lids_of t)) 255 (omega arith);
   };
   switches = refl;
   in_use = refl;

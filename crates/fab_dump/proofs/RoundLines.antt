@@ -265,7 +265,7 @@ module _ (t : Topology) (fabric : IsFabric t) where
       (all_flat IsLine (λ (s : ℕ × SwitchRow). Unit {0}) (levels_block t l) (λ s u. levels_are l s) (enumerate_from 0 t.switches) (anything (enumerate_from 0 t.switches)))
       (all_flat IsLine (λ (s : ℕ × SwitchRow). Unit {0}) (map_block l) (λ s u. maps_are l s) (enumerate_from 0 t.switches) (anything (enumerate_from 0 t.switches))))
       (All-cons IsLine (codes "Certificate:") (flat_map (number_lines t l) (enumerate_from 0 t.channels)) (plain_line (codes "Certificate:") refl)
-      (all_flat IsLine (λ (c : ℕ × ChannelRow). Unit {0}) (number_lines t l) (λ c u. numbers_are l fits.whole.few_numbers c) (enumerate_from 0 t.channels) (anything (enumerate_from 0 t.channels))))
+      (all_flat IsLine (λ (c : ℕ × ChannelRow). Unit {0}) (number_lines t l) (λ c u. numbers_are l fits.whole.low_numbers c) (enumerate_from 0 t.channels) (anything (enumerate_from 0 t.channels))))
 
 version_low : (l : Option LaneTables) → version_of l ≤ 3
 version_low None = omega arith

@@ -54,7 +54,7 @@ level_low l k lid are = go (index_of lid l.in_use)
     go : (o : Option ℕ) → IfSome (level_in_column l k o) (λ n. n < 16)
     go None = tt
     go (Some i) = elim (cases_lt (cell (length l.in_use) k i) (length l.levels)) [
-      | inl low ↦ All-get_or (λ (level : Option ℕ). IfSome level (λ n. n < 16)) l.levels (cell (length l.in_use) k i) None low are.few_levels
+      | inl low ↦ All-get_or (λ (level : Option ℕ). IfSome level (λ n. n < 16)) l.levels (cell (length l.in_use) k i) None low are.low_levels
       | inr past ↦ subst (λ (o : Option ℕ). IfSome o (λ n. n < 16)) (sym (get_or_past l.levels (cell (length l.in_use) k i) None past)) tt
     ]
 

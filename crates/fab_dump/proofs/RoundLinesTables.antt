@@ -135,7 +135,7 @@ entry_low e k lid are = go (index_of lid e.in_use)
     go : (o : Option ℕ) → port_in_column e k o < 256
     go None = omega arith
     go (Some i) = elim (cases_lt (cell (length e.in_use) k i) (length e.ports)) [
-      | inl low ↦ All-get_or (λ port. port < 256) e.ports (cell (length e.in_use) k i) 255 low are.few_ports
+      | inl low ↦ All-get_or (λ port. port < 256) e.ports (cell (length e.in_use) k i) 255 low are.low_ports
       | inr past ↦ omega (arith, get_or_past e.ports (cell (length e.in_use) k i) 255 past)
     ]
 

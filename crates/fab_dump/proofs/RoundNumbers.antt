@@ -64,7 +64,7 @@ module _ (t : Topology) (f : Form) (fabric : IsFabric t) (long : IsLong f.versio
     number_few : (on_lane : ℕ) → number l c on_lane < 2 ^ 32
     number_few on_lane = cond_both (nat_lt on_lane 15) (get_or l.numbers (cell 15 c on_lane) 0) 0 (λ n. n < 2 ^ 32)
         (λ e. elim (cases_lt (cell 15 c on_lane) (length l.numbers)) [
-          | inl low ↦ All-get_or (λ n. n < 2 ^ 32) l.numbers (cell 15 c on_lane) 0 low fit.whole.few_numbers
+          | inl low ↦ All-get_or (λ n. n < 2 ^ 32) l.numbers (cell 15 c on_lane) 0 low fit.whole.low_numbers
           | inr high ↦ omega (arith, get_or_past l.numbers (cell 15 c on_lane) 0 high)
         ])
         (λ e. omega arith)

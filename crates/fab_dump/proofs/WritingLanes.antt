@@ -23,7 +23,7 @@ general_lanes l s lanes are e =
 in_column : (l : LaneTables) (s : ℕ) (place : Option ℕ) → AreLaneTables l → IfSome (level_in_column l s place) (λ n. n < 16)
 in_column l s None are = tt
 in_column l s (Some i) are = elim (cases_lt (cell (length l.in_use) s i) (length l.levels)) [
-  | inl h ↦ All-get_or (λ (level : Option ℕ). IfSome level (λ n. n < 16)) l.levels (cell (length l.in_use) s i) None h are.few_levels
+  | inl h ↦ All-get_or (λ (level : Option ℕ). IfSome level (λ n. n < 16)) l.levels (cell (length l.in_use) s i) None h are.low_levels
   | inr h ↦ subst (λ (level : Option ℕ). IfSome level (λ n. n < 16)) (sym (get_or_past l.levels (cell (length l.in_use) s i) None h)) tt
 ]
 

@@ -1,7 +1,7 @@
 -- A set changes one value and no other: rows of cells, one after the other in a list.
 use Rattle.std.proofs.Common.{◌≡◌, ◌≢◌, ℕ, zero, suc, ◌+◌, ◌*◌, ◌<◌, ◌≤◌, Bool, true, false, List, [], ◌∷◌, length, refl, sym, ◌∙◌, ap, subst, arith, Some, None, Option, ◌⊎◌, inl, inr, get_or-set_same, get_or-set_other}
 use Rattle.std.proofs.Math.Nat.{mul-le-mul_left}
-use Rattle.std.proofs.lemmas.Bool.{cases_order, cases_lt, ne_eqb, lt-ltb, le-ltb}
+use Rattle.std.proofs.lemmas.Bool.{cases_order, cases_lt, ne_eqb, and_from, and_left, and_right, lt-ltb, le-ltb}
 use Rattle.std.proofs.lemmas.Bool.Decides.{eqb_tells}
 use Rattle.std.specs.Prelude.{slice_get, slice_index_or, slice_set, ◌==◌, ◌&&◌, if◌then◌else◌, option_map, nat_lt}
 use Rattle.fab_tables.specs.Entries.{Entries, AreEntries, index_of, cell, port_in_column, with_port_in_column, with_entry}
@@ -17,21 +17,6 @@ cell_rows w s i o j a b e = elim (cases_order s o) [ inl x ↦ (x, omega (arith,
 
 cell_within : (w n s i : ℕ) → s < n → i < w → cell w s i < n * w
 cell_within w n s i a b = omega (arith, row_before w s n i a b)
-
-and_true : (a b : Bool) → a ≡ true → b ≡ true → (a && b) ≡ true
-and_true true b x y = y
-and_true false b x y = x
-
-and_left : (a b : Bool) → a ≡ false → (a && b) ≡ false
-and_left true b x = absurd (not_both x)
-  where
-    not_both : true ≡ false → ⊥
-    not_both e = cc
-and_left false b x = refl
-
-and_right : (a b : Bool) → b ≡ false → (a && b) ≡ false
-and_right true b x = x
-and_right false b x = refl
 
 pub chosen : {A : Type 0} (b : Bool) (x y : A) → b ≡ true → x ≡ (if b then x else y)
 chosen true x y e = refl
@@ -58,7 +43,7 @@ set_cell {A} xs w n s i o j new d whole a b c = go (eqb_tells o s) (eqb_tells j 
 
     go : (((o == s) ≡ true) × (o ≡ s)) ⊎ (((o == s) ≡ false) × (o ≢ s)) → (((j == i) ≡ true) × (j ≡ i)) ⊎ (((j == i) ≡ false) × (j ≢ i)) →
         slice_index_or (slice_set xs (cell w s i) new) (cell w o j) d ≡ (if (o == s) && (j == i) then new else slice_index_or xs (cell w o j) d)
-    go (inl x) (inl y) = there x.1 y.1 ∙ chosen ((o == s) && (j == i)) new _ (and_true _ _ x.0 y.0)
+    go (inl x) (inl y) = there x.1 y.1 ∙ chosen ((o == s) && (j == i)) new _ (and_from _ _ x.0 y.0)
     go (inl x) (inr y) = elsewhere (λ e. y.1 ((cell_rows w o j s i c b e).1)) ∙ passed ((o == s) && (j == i)) new _ (and_right _ _ y.0)
     go (inr x) y = elsewhere (λ e. x.1 ((cell_rows w o j s i c b e).0)) ∙ passed ((o == s) && (j == i)) new _ (and_left _ _ x.0)
 

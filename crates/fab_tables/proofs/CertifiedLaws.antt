@@ -24,6 +24,7 @@ use Rattle.fab_tables.specs.Dependencies.{IsPath, IsUsed}
 use Rattle.fab_tables.specs.Certified.{Reaches, HasRisingNumbers, IsCertified, number_of}
 use Rattle.fab_tables.specs.Verdicts.{IsLaneFaultAt, IsFaultAt, IsHop, IsVerdict, Leaves}
 use Rattle.fab_tables.specs.Laws.{LanesIsCertified, RoutesReaches}
+use Rattle.fab_tables.proofs.DeadlockLaws.{some_at}
 use Rattle.fab_tables.proofs.PlainLaws.{source_of, terminal_of}
 
 -- elements and their places
@@ -42,11 +43,6 @@ pub contains_of : {A : Type 0} (xs : List A) (k : ℕ) (a : A) → slice_get xs 
 contains_of [] k a e = absurd (none_some a e)
 contains_of (x ∷ xs) zero a e = (0, omega arith, unsome x a e)
 contains_of (x ∷ xs) (suc k) a e = let c : Contains xs a = contains_of xs k a e in (suc c.0, omega (arith, c.1), c.2)
-
-some_at : {A : Type 0} (xs : List A) (k : ℕ) → k < length xs → (a : A) × (slice_get xs k ≡ Some a)
-some_at [] k h = absurd (omega arith)
-some_at (x ∷ xs) zero h = (x, refl)
-some_at (x ∷ xs) (suc k) h = some_at xs k (omega arith)
 
 -- the channels of a route are channels of the fabric
 channel_there : (t : Topology) (s port c : ℕ) → channel_at t s port ≡ Some c → c < length t.channels

@@ -2,7 +2,7 @@
 use Rattle.std.proofs.Common.{◌≡◌, ℕ, zero, suc, ◌<◌, ◌⊎◌, inl, inr, List, [], ◌∷◌, None, subst, arith}
 use Rattle.std.proofs.lemmas.Bool.{cases_lt}
 use Rattle.fab_graph.proofs.Decided.{Decided}
-use Rattle.fab_tables.specs.First.{IsBefore, IsFirst, FindsFirst, Beneath}
+use Rattle.fab_tables.specs.First.{IsFirst, FindsFirst, Beneath}
 use Rattle.fab_tables.proofs.Firsts.{none_beneath, first_beneath}
 use Rattle.fab_tables.proofs.RouteFaults.{none_before}
 

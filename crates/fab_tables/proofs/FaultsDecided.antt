@@ -2,7 +2,7 @@
 use Rattle.std.proofs.Common.{◌≡◌, ◌≢◌, Bool, true, false, ℕ, zero, suc, ◌+◌, ◌<◌, ◌≤◌, ◌⊎◌, inl, inr, List, [], ◌∷◌, length, Option, Some, None, refl, sym, ◌∙◌, ap, subst, arith, Contains}
 use Rattle.std.specs.Prelude.{slice_get, slice_index, IsTrue}
 use Rattle.std.proofs.lemmas.Option.{none-some, same_Some}
-use Rattle.fab_graph.proofs.Decided.{Decided, equal, equivalent, both, either}
+use Rattle.fab_graph.proofs.Decided.{Decided, equal, equivalent, both, either, not_decided}
 use Rattle.fab_model.specs.declared.rows.ChannelRow.{ChannelRow}
 use Rattle.fab_model.specs.declared.rows.TerminalRow.{TerminalRow}
 use Rattle.fab_model.specs.Topology.{Topology, lids_of, is_source, lid_id, switch_id}
@@ -25,7 +25,6 @@ use Rattle.fab_tables.proofs.DeadlockLaws.{total, at_most_total}
 use Rattle.fab_tables.proofs.FallingRoutes.{connected_below}
 use Rattle.fab_tables.proofs.FaultSearch.{IsSmall, Stands}
 use Rattle.fab_tables.proofs.Lids.{connected_in_use}
-use Rattle.fab_tables.proofs.RouteFaults.{IsUnreached, unreached}
 use Rattle.fab_tables.proofs.Routes.{delivered_or_not, goes_on}
 
 -- ---- of lists, numbers and options
@@ -57,11 +56,7 @@ true_decided true = inl refl
 true_decided false = inr (λ e. cc)
 
 other_decided : (t : Topology) (e : Entries) (s lid : ℕ) → Decided ((route t e s lid).end ≢ Delivered)
-other_decided t e s lid = swap (delivered_or_not (route t e s lid).end)
-  where
-    swap : ((route t e s lid).end ≡ Delivered) ⊎ ((route t e s lid).end ≢ Delivered) → Decided ((route t e s lid).end ≢ Delivered)
-    swap (inl d) = inr (λ other. other d)
-    swap (inr other) = inl other
+other_decided t e s lid = not_decided ((route t e s lid).end ≡ Delivered) (delivered_or_not (route t e s lid).end)
 
 three : (P Q R : Type 0) → Decided P → Decided Q → Decided R → Decided (P × Q × R)
 three P Q R p q r = equivalent (P × (Q × R)) (P × Q × R) (λ x. (x.0, x.1.0, x.1.1)) (λ x. (x.0, (x.1, x.2))) (both P (Q × R) p (both Q R q r))

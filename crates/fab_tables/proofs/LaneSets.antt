@@ -24,14 +24,14 @@ new_kept count s ch lids few are =
       count = few;
       ascending = are.ascending;
       all_levels = length-replicate (s * length lids) None;
-      few_levels = All-replicate (λ (level : Option ℕ). IfSome level (λ n. n < 16)) (s * length lids) None tt;
+      low_levels = All-replicate (λ (level : Option ℕ). IfSome level (λ n. n < 16)) (s * length lids) None tt;
       all_general = length-replicate (s * 16) 15;
       lanes = All-replicate (λ lane. lane < 16) (s * 16) 15 (omega arith);
       in_order = λ k h. absurd (omega arith);
       few_pairs = omega arith;
       pairs = All-nil _;
       all_numbers = length-replicate (ch * 15) 0;
-      few_numbers = All-replicate (λ n. n < 4294967296) (ch * 15) 0 (omega arith);
+      low_numbers = All-replicate (λ n. n < 4294967296) (ch * 15) 0 (omega arith);
     }
 
 module _ (l : LaneTables) (are : AreLaneTables l) where
@@ -41,14 +41,14 @@ module _ (l : LaneTables) (are : AreLaneTables l) where
         count = are.count;
         ascending = are.ascending;
         all_levels = length-set l.levels i new ∙ are.all_levels;
-        few_levels = All-set (λ (level : Option ℕ). IfSome level (λ n. n < 16)) l.levels i new low are.few_levels;
+        low_levels = All-set (λ (level : Option ℕ). IfSome level (λ n. n < 16)) l.levels i new low are.low_levels;
         all_general = are.all_general;
         lanes = are.lanes;
         in_order = are.in_order;
         few_pairs = are.few_pairs;
         pairs = are.pairs;
         all_numbers = are.all_numbers;
-        few_numbers = are.few_numbers;
+        low_numbers = are.low_numbers;
       }
 
   pub pairs_kept : (rows : List PairRow) → IsStrictlyIncreasing (map pair_key rows) → length rows ≤ 65536 →
@@ -58,14 +58,14 @@ module _ (l : LaneTables) (are : AreLaneTables l) where
         count = are.count;
         ascending = are.ascending;
         all_levels = are.all_levels;
-        few_levels = are.few_levels;
+        low_levels = are.low_levels;
         all_general = are.all_general;
         lanes = are.lanes;
         in_order = up;
         few_pairs = few;
         pairs = each;
         all_numbers = are.all_numbers;
-        few_numbers = are.few_numbers;
+        low_numbers = are.low_numbers;
       }
 
 pub level_set : (l : LaneTables) (s lid place i : ℕ) (new : Option ℕ) → Some place ≡ index_of lid l.in_use → i ≡ cell (length l.in_use) s place → record l { levels = set l.levels i new } ≡ with_level l s lid new

@@ -13,6 +13,6 @@ level_low l s lid n are is = in_column (index_of lid l.in_use) is
     in_column : (o : Option ℕ) → level_in_column l s o ≡ Some n → n < 16
     in_column None e = absurd (none-some n e)
     in_column (Some i) e = elim (cases_lt (cell (length l.in_use) s i) (length l.levels)) [
-      | inl low ↦ subst (λ (o : Option ℕ). IfSome o (λ m. m < 16)) e (are.few_levels (cell (length l.in_use) s i) None low)
+      | inl low ↦ subst (λ (o : Option ℕ). IfSome o (λ m. m < 16)) e (are.low_levels (cell (length l.in_use) s i) None low)
       | inr past ↦ absurd (none-some n (sym (get_or_past l.levels (cell (length l.in_use) s i) None past) ∙ e))
     ]

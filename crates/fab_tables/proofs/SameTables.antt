@@ -37,8 +37,9 @@ same_tables : (count switches channels : ℕ) (in_use : List ℕ) (levels : List
     m ≡ record { count = count; switches = switches; channels = channels; in_use = in_use; levels = levels; general = general; pairs = pairs; numbers = m.numbers }
 same_tables count switches channels in_use levels general pairs m a b c d e f g = rw (sym a, sym b, sym c, sym d, sym e, sym f, sym g) refl
 
-module _ (t : Topology) (l m : LaneTables) (x : LanesFit t l) (y : LanesFit t m) (maps : HasLanePerLevel l) (also : HasLanePerLevel m) (count : m.count ≡ l.count)
-    (same : (s lid : ℕ) → level m s lid ≡ level l s lid) where
+-- lanes that fit, with the engines' maps and the same levels, differ in their numbers alone
+module _ (t : Topology) (l m : LaneTables) (x : LanesFit t l) (y : LanesFit t m) (count : l.count ≡ m.count) (maps_l : HasLanePerLevel l) (maps_m : HasLanePerLevel m)
+    (same : (s lid : ℕ) → level l s lid ≡ level m s lid) where
   level_at : (k : LaneTables) (row i : ℕ) → LanesFit t k → i < length (lids_of t) → slice_index_or k.levels (cell (length (lids_of t)) row i) None ≡ level k row (slice_index_or (lids_of t) i 0)
   level_at k row i z low =
       sym (ap (λ ns. level_in_column k row (index_of (slice_index_or (lids_of t) i 0) ns)) z.in_use
@@ -47,13 +48,13 @@ module _ (t : Topology) (l m : LaneTables) (x : LanesFit t l) (y : LanesFit t m)
 
   levels : m.levels ≡ l.levels
   levels = same_cells m.levels l.levels (length t.switches) (length (lids_of t)) None (whole m y) (whole l x)
-      (λ row i a b. level_at m row i y b ∙ same row (slice_index_or (lids_of t) i 0) ∙ sym (level_at l row i x b))
+      (λ row i a b. level_at m row i y b ∙ sym (same row (slice_index_or (lids_of t) i 0)) ∙ sym (level_at l row i x b))
     where
       whole : (k : LaneTables) → LanesFit t k → length k.levels ≡ length t.switches * length (lids_of t)
       whole k z = z.whole.all_levels ∙ ap (λ n. n * length k.in_use) z.switches ∙ ap (λ (ns : List ℕ). length t.switches * length ns) z.in_use
 
   general : m.general ≡ l.general
-  general = same_cells m.general l.general (length t.switches) 16 15 (whole m y) (whole l x) (λ row i a b. mapped m row i y also a b ∙ ap (λ n. lane_of_level n i) count ∙ sym (mapped l row i x maps a b))
+  general = same_cells m.general l.general (length t.switches) 16 15 (whole m y) (whole l x) (λ row i a b. mapped m row i y maps_m a b ∙ ap (λ n. lane_of_level n i) (sym count) ∙ sym (mapped l row i x maps_l a b))
     where
       whole : (k : LaneTables) → LanesFit t k → length k.general ≡ length t.switches * 16
       whole k z = z.whole.all_general ∙ ap (λ n. n * 16) z.switches
@@ -61,17 +62,16 @@ module _ (t : Topology) (l m : LaneTables) (x : LanesFit t l) (y : LanesFit t m)
       mapped : (k : LaneTables) (row i : ℕ) → LanesFit t k → HasLanePerLevel k → row < length t.switches → i < 16 → lane k row i ≡ lane_of_level k.count i
       mapped k row i z per_level a b = per_level.general row i (omega (arith, a, z.switches)) b
 
-  -- lanes with the same count and levels differ in nothing but their numbers
-  pub lanes_same : m ≡ record l { numbers = m.numbers }
-  lanes_same =
-      same_tables l.count l.switches l.channels l.in_use l.levels l.general l.pairs m count (y.switches ∙ sym x.switches) (y.channels ∙ sym x.channels) (y.in_use ∙ sym x.in_use) levels general
-      (also.no_pair ∙ sym maps.no_pair)
+  pub same_but_numbers : m ≡ record l { numbers = m.numbers }
+  same_but_numbers =
+      same_tables l.count l.switches l.channels l.in_use l.levels l.general l.pairs m (sym count) (y.switches ∙ sym x.switches) (y.channels ∙ sym x.channels) (y.in_use ∙ sym x.in_use) levels general
+      (maps_m.no_pair ∙ sym maps_l.no_pair)
 
--- and the numbers of all channels and lanes are all numbers
-module _ (l m : LaneTables) (x : AreLaneTables l) (y : AreLaneTables m) (channels : m.channels ≡ l.channels) (same : (channel of_lane : ℕ) → number m channel of_lane ≡ number l channel of_lane) where
+-- lanes with the same number for each channel and lane have the same numbers
+module _ (l m : LaneTables) (x : AreLaneTables l) (y : AreLaneTables m) (channels : l.channels ≡ m.channels) (same : (channel of_lane : ℕ) → number l channel of_lane ≡ number m channel of_lane) where
   number_at : (k : LaneTables) (channel of_lane : ℕ) → of_lane < 15 → slice_index_or k.numbers (cell 15 channel of_lane) 0 ≡ number k channel of_lane
   number_at k channel of_lane low = sym (cond-true (nat_lt of_lane 15) (slice_index_or k.numbers (cell 15 channel of_lane) 0) 0 (lt-ltb of_lane 15 low))
 
-  pub numbers_same : m.numbers ≡ l.numbers
-  numbers_same = same_cells m.numbers l.numbers l.channels 15 0 (y.all_numbers ∙ ap (λ n. n * 15) channels) x.all_numbers
-      (λ c i a b. number_at m c i b ∙ same c i ∙ sym (number_at l c i b))
+  pub numbers_same : l.numbers ≡ m.numbers
+  numbers_same = same_cells l.numbers m.numbers l.channels 15 0 x.all_numbers (y.all_numbers ∙ ap (λ n. n * 15) (sym channels))
+      (λ c i a b. number_at l c i b ∙ same c i ∙ sym (number_at m c i b))

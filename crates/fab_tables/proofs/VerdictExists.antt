@@ -1,16 +1,16 @@
 -- There is a verdict, and a refusal or no structural fault.
-use Rattle.std.proofs.Common.{◌≡◌, ◌⊎◌, inl, inr, List, ℕ, Option, Some, None, refl}
+use Rattle.std.proofs.Common.{◌⊎◌, inl, inr, List, ℕ, Option, Some, None, refl}
 use Rattle.fab_graph.proofs.Decided.{Decided, equivalent, either}
 use Rattle.fab_model.specs.Topology.{Topology, lid_id, switch_id}
 use Rattle.fab_model.specs.WellFormed.{IsFabric}
-use Rattle.std.specs.Prelude.{slice_index, IsSome}
+use Rattle.std.specs.Prelude.{slice_index}
 use Rattle.fab_tables.specs.declared.verdict.Verdict.{Verdict}
 use Rattle.fab_tables.specs.declared.verdict.Verdict.TheVariants.{Routes, Lanes, Unreached, NoLevel, BadLane, NoNumber, NotRising}
 use Rattle.fab_tables.specs.Entries.{Entries}
 use Rattle.fab_tables.specs.LaneTables.{LaneTables}
 use Rattle.fab_tables.specs.Route.{route}
 use Rattle.fab_tables.specs.First.{IsFirst}
-use Rattle.fab_tables.specs.Verdicts.{IsFaultAt, IsVerdict, IsStructural, IsRefusal}
+use Rattle.fab_tables.specs.Verdicts.{IsFaultAt, IsVerdict, IsStructural}
 use Rattle.fab_tables.specs.Laws.{VerdictExists, RefusalOrNone}
 use Rattle.fab_tables.proofs.FaultSearch.{Stands, Searched, first_or_none}
 use Rattle.fab_tables.proofs.FaultsDecided.{UnreachedAt, unreached_decided, unreached_is, unreached_small, StructuralAt, NumberedAt, structural_decided, numbered_decided, structural_stands, numbered_stands, kind, structural_small, numbered_small, size}

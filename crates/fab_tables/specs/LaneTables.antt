@@ -32,14 +32,14 @@ pub record AreLaneTables (l : LaneTables) : Type 0 where
   pub count : (0 < l.count) × (l.count ≤ 15)
   pub ascending : IsStrictlyIncreasing l.in_use
   pub all_levels : length l.levels ≡ l.switches * length l.in_use
-  pub few_levels : All (λ level. IfSome level (λ n. n < 16)) l.levels
+  pub low_levels : All (λ level. IfSome level (λ n. n < 16)) l.levels
   pub all_general : length l.general ≡ l.switches * 16
   pub lanes : All (λ lane. lane < 16) l.general
   pub in_order : IsStrictlyIncreasing (map pair_key l.pairs)
   pub few_pairs : length l.pairs ≤ 65536
   pub pairs : All (IsPairRow l.switches) l.pairs
   pub all_numbers : length l.numbers ≡ l.channels * 15
-  pub few_numbers : All (λ n. n < 2 ^ 32) l.numbers
+  pub low_numbers : All (λ n. n < 2 ^ 32) l.numbers
 
 abbrev pub level_in_column : LaneTables → ℕ → Option ℕ → Option ℕ
 level_in_column l s None = None

@@ -60,10 +60,14 @@ VerdictExists = (t : Topology) (e : Entries) (l : Option LaneTables) → IsFabri
 abbrev pub OneVerdict : Type 0
 OneVerdict = (t : Topology) (e : Entries) (l : Option LaneTables) (v w : Verdict) → IsVerdict t e l v → IsVerdict t e l w → v ≡ w
 
--- with lanes it has a refusal, or at no place a fault that no numbers can mend
+-- with lanes it has a refusal, or no fault that no numbers can mend
 abbrev pub RefusalOrNone : Type 0
 RefusalOrNone = (t : Topology) (e : Entries) (l : LaneTables) → IsFabric t →
     ((v : Verdict) × IsRefusal t e l v) ⊎ ((place : List ℕ) (fault : Verdict) → IsStructural fault → ¬ IsFaultAt t e (Some l) place fault)
+
+-- and one refusal only
+abbrev pub OneRefusal : Type 0
+OneRefusal = (t : Topology) (e : Entries) (l : LaneTables) (v w : Verdict) → IsRefusal t e l v → IsRefusal t e l w → v ≡ w
 
 -- the verdict is Lanes exactly of certified plans
 abbrev pub LanesIsCertified : Type 0

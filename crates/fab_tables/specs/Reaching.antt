@@ -14,6 +14,6 @@ pub record IsToward (t : Topology) (e : Entries) (lid : ℕ) : Type 0 where
   pub in_use : Contains (lids_of t) lid
 
 -- each switch that is marked has a delivered route
-pub record AreMarks (t : Topology) (e : Entries) (lid : ℕ) (marks : List Bool) : Type 0 where
+pub record AreDelivered (t : Topology) (e : Entries) (lid : ℕ) (marks : List Bool) : Type 0 where
   pub room : length marks ≡ length t.switches
   pub delivered : (s : ℕ) → slice_index_or marks s false ≡ true → (route t e s lid).end ≡ Delivered

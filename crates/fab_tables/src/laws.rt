@@ -1,4 +1,5 @@
-ghost use Rattle.fab_tables.specs.Laws.{LoopRepeats, LoopIsLong, OneEntryChanges, OneLevelChanges, OneLaneChanges, OnePairChanges, OneNumberChanges, VerdictExists, OneVerdict, RefusalOrNone, LanesIsCertified, RoutesReaches, RisingIsFreeOfDeadlock, PlainAgrees, PlainVerdictAgrees};
+//! The laws of the definitions of this crate. Each function ensures one, and does nothing.
+ghost use Rattle.fab_tables.specs.Laws.{LoopRepeats, LoopIsLong, OneEntryChanges, OneLevelChanges, OneLaneChanges, OnePairChanges, OneNumberChanges, VerdictExists, OneVerdict, RefusalOrNone, OneRefusal, LanesIsCertified, RoutesReaches, RisingIsFreeOfDeadlock, PlainAgrees, PlainVerdictAgrees};
 ghost use Rattle.fab_tables.specs.Reading.{ReadingAgrees};
 
 /// A set changes one entry and no other.
@@ -49,6 +50,11 @@ pub fn one_verdict()
 /// A plan with lanes has a refusal, or no fault but of its numbers.
 pub fn refusal_or_none()
     ensures { RefusalOrNone }
+{}
+
+/// A plan with lanes has one refusal only.
+pub fn one_refusal()
+    ensures { OneRefusal }
 {}
 
 /// The verdict is `Lanes` exactly of certified plans.

@@ -28,9 +28,9 @@ pub use following::{Following, follow};
 pub use lanes::{Lanes, PairFault, PairRow};
 pub use laws::{
     lanes_is_certified, loop_is_long, loop_repeats, one_entry_changes, one_lane_changes,
-    one_level_changes, one_number_changes, one_pair_changes, one_verdict, plain_agrees,
-    plain_verdict_agrees, reading_agrees, refusal_or_none, rising_is_free_of_deadlock,
-    routes_reaches, verdict_exists,
+    one_level_changes, one_number_changes, one_pair_changes, one_refusal, one_verdict,
+    plain_agrees, plain_verdict_agrees, reading_agrees, refusal_or_none,
+    rising_is_free_of_deadlock, routes_reaches, verdict_exists,
 };
 pub use plan::Plan;
 pub use reaching::first_unreached;

@@ -4,7 +4,7 @@ ghost use Rattle.fab_tables.specs.declared.end.End.TheVariants.{Delivered as del
 ghost use Rattle.fab_tables.specs.Fit.{EntriesFit};
 ghost use Rattle.fab_tables.specs.Route.{route as path};
 ghost use Rattle.fab_tables.specs.Verdicts.{IsFaultAt};
-ghost use Rattle.fab_tables.specs.Reaching.{IsToward, AreMarks};
+ghost use Rattle.fab_tables.specs.Reaching.{IsToward, AreDelivered};
 ghost use Rattle.fab_tables.specs.First.{FindsFirst, Beneath};
 
 use crate::components::Components;
@@ -73,7 +73,7 @@ fn end_of_route(
     from: SwitchId,
 ) -> End
     requires toward { IsToward fabric.now tables.now lid.0 }
-    requires marks { AreMarks fabric.now tables.now lid.0 delivered.now }
+    requires marks { AreDelivered fabric.now tables.now lid.0 delivered.now }
     requires switch { from.0 < length fabric.now.switches }
     ensures { result ≡ (path fabric.now tables.now from.0 lid.0).end }
 {
@@ -89,10 +89,10 @@ fn end_of_route(
 /// Marks the switches of a delivered route, up to one that is marked already.
 fn mark_route(fabric: &Fabric, tables: &Tables, lid: Lid, delivered: &mut [bool], from: SwitchId)
     requires toward { IsToward fabric.now tables.now lid.0 }
-    requires marks { AreMarks fabric.now tables.now lid.0 delivered.old }
+    requires marks { AreDelivered fabric.now tables.now lid.0 delivered.old }
     requires switch { from.0 < length fabric.now.switches }
     requires reaches { (path fabric.now tables.now from.0 lid.0).end ≡ delivery }
-    ensures { AreMarks fabric.now tables.now lid.0 delivered.new }
+    ensures { AreDelivered fabric.now tables.now lid.0 delivered.new }
 {
     delivered[from.0 as usize] = true;
     for channel in follow(fabric, tables, from, lid) {

@@ -1,0 +1,5 @@
+use Rattle.fab_tables.proofs.OneVerdict
+use Rattle.fab_tables.proofs.laws.one_refusal.Goals as goal
+
+pub returns : goal.returns
+returns c = OneVerdict.one_refusal
