@@ -1,5 +1,10 @@
-//! The checker of plans. It stands on the fabric and the tables alone, and so shares nothing with the engines
-//! that make plans.
+//! The checker of plans: whether every route is delivered and the numbers of the virtual channels rise along
+//! each, so that no packets wait for each other (Dally and Seitz), and if not, the first fault. It stands on
+//! the fabric and the tables alone, and so shares nothing with the engines that make plans.
+//!
+//! For each LID each switch is looked at once, and with lanes once more for each level in use; a start takes
+//! three hops. Without pairs that have a map one start of a source is looked at, and else that of each
+//! terminal.
 #![tactic(auto)]
 
 ghost use Rattle.std.specs.Prelude.{◌≡◌, ◌↔◌, IfOk, None};
@@ -8,14 +13,13 @@ ghost use Rattle.fab_tables.specs.Certified.{Reaches, IsCertified};
 ghost use Rattle.fab_tables.specs.Verdicts.{IsVerdict};
 ghost use Rattle.fab_check.specs.Free.{IsFreeOfDeadlock};
 
-mod hops;
-mod lanes;
 #[cfg(test)]
 mod tests;
 
-use crate::lanes::first_lane_fault;
 use fab_model::Fabric;
-use fab_tables::{Components, Plan, Start, Verdict, first_unreached, starts_of};
+use fab_tables::{
+    Components, LaneFaults, Marks, Plan, Starts, Verdict, first_lane_fault, first_unreached,
+};
 use std::alloc::{AllocError, Global};
 use std::marker::Model;
 
@@ -24,41 +28,47 @@ use std::marker::Model;
 pub struct Checker<'f> {
     fabric: &'f Fabric,
     components: Components<'f>,
-    // where the packets of the terminals start, by switch and port
-    starts: Vec<Start>,
+    starts: Starts,
     // room for a mark at each switch: that its route to the LID under check is delivered
     delivered: Vec<bool>,
+    // room for a mark at each switch and level: that the hops behind are judged
+    judged: Marks,
 }
 
 impl<'f> Model for Checker<'f> {
     ghost use Rattle.std.specs.Prelude.{◌≡◌, length};
     ghost use Rattle.fab_model.specs.Topology.{Topology};
-    ghost use Rattle.fab_tables.specs.Starts.{AreStarts};
+    ghost use Rattle.fab_tables.specs.Starts.{AreAllStarts};
+    ghost use Rattle.fab_tables.specs.Judged.{IsRoomFor};
 
     ghost Value = { Topology };
 
     ghost view = { λ c. c.fabric.now };
 
-    ghost invariant = { λ c. (c.components ≡ c.fabric.now) × AreStarts c.fabric.now c.starts.items × (length c.delivered.items ≡ length c.fabric.now.switches) };
+    ghost invariant = { λ c. (c.components ≡ c.fabric.now) × AreAllStarts c.fabric.now c.starts × (length c.delivered.items ≡ length c.fabric.now.switches) × IsRoomFor c.fabric.now c.judged };
 }
 
 impl<'f> Checker<'f> {
-    /// A checker of plans for this fabric. It has all the memory that its checks need.
+    /// A checker of plans for this fabric. It has all the memory that its checks need: some 20 bytes for each
+    /// switch and 16 for each terminal.
     pub fn new(alloc: Global, fabric: &'f Fabric) -> Result<Checker<'f>, AllocError>
         ensures { IfOk result (λ c. c ≡ fabric.now) }
     {
         let components = Components::of(alloc, fabric)?;
-        let starts = starts_of(alloc, fabric)?;
+        let starts = Starts::of(alloc, fabric)?;
         let delivered = vec![in alloc; false; fabric.switches() as usize]?;
+        let judged = Marks::new(alloc, fabric)?;
         Ok(Checker {
             fabric,
             components,
             starts,
             delivered,
+            judged,
         })
     }
 
-    /// The verdict on a plan: its first fault, or that there is none. It takes no memory.
+    /// The verdict on a plan: its first fault, or that there is none. It takes no memory, and the time of a few
+    /// hops for each LID, switch and level in use.
     ///
     /// First comes `Unreached`, by LID and then by switch connected to it, for a route that isn't delivered.
     /// A plan without lanes is then good: `Routes`. With lanes, LIDs and the sources connected to them are
@@ -86,8 +96,10 @@ impl<'f> Checker<'f> {
                     self.fabric,
                     tables,
                     lanes,
+                    LaneFaults::Every,
                     &self.components,
                     &self.starts,
+                    &mut self.judged,
                 ).unwrap_or(Verdict::Lanes)
             }
         }

@@ -31,6 +31,7 @@ pub mod Ways
 pub mod HopsTaken
 pub mod RouteFaults
 pub mod StartsSorted
+pub mod FirstStarts
 pub mod LevelsLow
 pub mod StartFaults
 pub mod FaultSearch
@@ -43,3 +44,9 @@ pub mod SameRoutes
 pub mod TreeWalks
 pub mod RisingTrees
 pub mod TreeRoutes
+pub mod SoughtFaults
+pub mod Reached
+pub mod RoutesBehind
+pub mod HopFaults
+pub mod HopsJudged
+pub mod Judged

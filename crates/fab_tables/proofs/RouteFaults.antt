@@ -1,5 +1,5 @@
 -- Faults of routes, by their places.
-use Rattle.std.proofs.Common.{◌≡◌, ◌≢◌, ℕ, ◌<◌, List, [], ◌∷◌, length, refl, sym, ◌∙◌, ap, subst, inl, inr, ◌⊎◌, arith, Some, None, Option, Contains}
+use Rattle.std.proofs.Common.{◌≡◌, ◌≢◌, ℕ, ◌+◌, ◌<◌, List, [], ◌∷◌, length, refl, sym, ◌∙◌, ap, subst, inl, inr, ◌⊎◌, arith, Some, None, Option, Contains}
 use Rattle.std.specs.Prelude.{slice_get, slice_index, IsSome}
 use Rattle.std.specs.List.Sorted.{IsStrictlyIncreasing}
 use Rattle.std.proofs.lemmas.Bool.{cases_lt, cases_eq}
@@ -117,6 +117,17 @@ module _ (t : Topology) (e : Entries) where
     pub first_by_lid : (found : Option Verdict) → IsSome found → FindsFirst (Beneath (0 ∷ lid ∷ []) P) found → FindsFirst P found
     first_by_lid None some first = cc
     first_by_lid (Some fault) some first = first_beneath P none_empty 0 fault (first_beneath (Beneath (0 ∷ []) P) none_at_0 lid fault first none_below) (λ m less. absurd (omega arith))
+
+    pub one_lid_clear : (found : Option Verdict) → found ≡ None → FindsFirst (Beneath (0 ∷ lid ∷ []) P) found →
+        (k other : ℕ) → k < index + 1 → slice_get (lids_of t) k ≡ Some other → FindsFirst (Beneath (0 ∷ other ∷ []) P) None
+    one_lid_clear found nothing here k other low there = elim (cases_lt k index) [
+      | inl less ↦ none k other less there
+      | inr same ↦
+          (let eq : index ≡ k = omega arith in
+          let is : lid ≡ other = same_Some lid other (sym at ∙ ap (λ n. slice_get (lids_of t) n) eq ∙ there) in
+          let none_here : FindsFirst (Beneath (0 ∷ lid ∷ []) P) None = subst (λ o. FindsFirst (Beneath (0 ∷ lid ∷ []) P) o) nothing here in
+          subst (λ n. FindsFirst (Beneath (0 ∷ n ∷ []) P) None) is none_here)
+    ]
 
   pub none_by_lid : ((k lid : ℕ) → k < length (lids_of t) → slice_get (lids_of t) k ≡ Some lid → FindsFirst (Beneath (0 ∷ lid ∷ []) P) None) → FindsFirst P None
   none_by_lid none = none_beneath P none_empty (λ m. kinds m (cases_eq m 0))

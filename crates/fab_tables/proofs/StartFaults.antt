@@ -1,7 +1,7 @@
 -- Faults of lanes, from start to start and from LID to LID. What is said here holds of all of them, and of those
 -- alone that no numbers can mend.
-use Rattle.std.proofs.Common.{◌≡◌, ◌≢◌, ℕ, suc, ◌+◌, ◌<◌, Bool, true, false, List, [], ◌∷◌, length, drop, refl, sym, ◌∙◌, ap, subst, inl, inr, ◌⊎◌, arith, Some, None, Option, Contains, slice_get, add-one, not}
-use Rattle.std.specs.Prelude.{slice_index, slice_index_or, IsSome, is_some}
+use Rattle.std.proofs.Common.{◌≡◌, ◌≢◌, ℕ, suc, ◌+◌, ◌<◌, ◌≤◌, Bool, true, false, List, [], ◌∷◌, length, drop, refl, sym, ◌∙◌, ap, subst, inl, inr, ◌⊎◌, arith, Some, None, Option, Contains, slice_get, add-one, not}
+use Rattle.std.specs.Prelude.{All, slice_index, slice_index_or, IsSome, is_some}
 use Rattle.std.specs.List.Sorted.{IsStrictlyIncreasing}
 use Rattle.std.specs.Option.{option_eq}
 use Rattle.std.proofs.lemmas.Bool.{cases_lt, cases_eq, both_ways, not-false}
@@ -24,7 +24,7 @@ use Rattle.fab_tables.specs.Plain.{plain_channels}
 use Rattle.fab_tables.specs.Verdicts.{IsHop, IsLaneFaultAt}
 use Rattle.fab_tables.proofs.PlainLaws.{same_channels, source_of, terminal_of}
 use Rattle.fab_tables.specs.declared.starts.Start.{Start}
-use Rattle.fab_tables.specs.Starts.{start_of, StartsNotAfter, IsOfTerminal, AreStarts}
+use Rattle.fab_tables.specs.Starts.{start_of, StartsNotAfter, IsOfTerminal, StandsFor, AreStartsFor}
 use Rattle.fab_tables.specs.First.{IsFirst, FindsFirst, Beneath}
 use Rattle.fab_tables.proofs.Lids.{connected_in_use, lesser_first}
 use Rattle.fab_tables.proofs.Firsts.{none_beneath, first_beneath}
@@ -162,31 +162,50 @@ module _ (t : Topology) (e : Entries) (l : LaneTables) where
           (choice.elsewhere _ _ fault f (fault_moved plain a b of_terminal same lid rest fault (choice.fault _ fault f)));
     }
 
+    -- a start is clear where another one at the same port is
+    clear_same : (a b : Start) → a.switch.0 ≡ b.switch.0 → a.port ≡ b.port → (lid : ℕ) → IsClear t l P lid a → IsClear t l P lid b
+    clear_same a b same by lid clear = record {
+      has_level = λ c. subst (λ s. IsSome (level l s lid)) same (clear.has_level (subst (λ s. IsConnectedTo t s lid) (sym same) c));
+      hops = λ rest fault f. clear.hops rest fault
+          (subst (λ n. P (1 ∷ lid ∷ n ∷ a.port ∷ rest) fault) (sym same) (subst (λ n. P (1 ∷ lid ∷ b.switch.0 ∷ n ∷ rest) fault) (sym by) f));
+    }
+
     -- from port to port, and from source to source
-    module _ (lid : ℕ) (starts : List Start) (are : AreStarts t starts) where
-      start_there : (row : TerminalRow) → Contains t.terminals row → Contains starts (start_of row)
-      start_there row has = All-contains (λ (r : TerminalRow). Contains starts (start_of r)) t.terminals row are.all has
+    module _ (lid : ℕ) (starts : List Start) (are : AreStartsFor t l starts) where
+      -- one of the starts stands for a terminal
+      abbrev IsStoodFor : TerminalRow → Type 0
+      IsStoodFor row = (start : Start) × Contains starts start × StandsFor l start row
 
-      -- the fault of a hop stands at some start
-      abbrev IsAt : ℕ → ℕ → Type 0
-      IsAt s port = (start : Start) × Contains starts start × (start.switch.0 ≡ s) × (start.port ≡ port)
+      stood_for : (row : TerminalRow) → Contains t.terminals row → IsStoodFor row
+      stood_for row has = All-contains (λ (r : TerminalRow). IsStoodFor r) t.terminals row are.all has
 
-      at_start : (s port : ℕ) (rest : List ℕ) (fault : Verdict) → P (1 ∷ lid ∷ s ∷ port ∷ rest) fault → IsAt s port
-      at_start s port rest fault f = elim (kind (1 ∷ lid ∷ s ∷ port ∷ rest) fault (choice.fault _ fault f)) [
-        | inl x ↦ absurd (omega (arith, ap (λ (xs : List ℕ). length xs) x.2))
-        | inr y ↦ (
-          start_of y.7.terminal,
-          start_there y.7.terminal y.7.path.terminal,
-          y.7.of_source ∙ sym (ap (λ xs. slice_index xs 2) y.6),
-          y.7.at_port ∙ sym (ap (λ xs. slice_index xs 3) y.6),
-        )
+      of_terminal : (start : Start) → Contains starts start → IsOfTerminal t start
+      of_terminal start has = All-contains (IsOfTerminal t) starts start are.terminals has
+
+      -- where it is clear, so is the terminal's own
+      own_clear : (row : TerminalRow) (start : Start) → Contains starts start → StandsFor l start row → IsClear t l P lid start → IsClear t l P lid (start_of row)
+      own_clear row start has stands clear = elim stands.alike [
+        | inl same ↦ clear_same start (start_of row) stands.switch same lid clear
+        | inr plain ↦ clear_alike plain start (start_of row) (of_terminal start has) stands.switch lid clear
       ]
 
-      -- where the starts at a port of a switch are clear, none is beneath
-      none_at_port : (s port : ℕ) → ((start : Start) → Contains starts start → start.switch.0 ≡ s → start.port ≡ port → IsClear t l P lid start) → FindsFirst (Beneath (1 ∷ lid ∷ s ∷ port ∷ []) P) None
+      -- the fault of a hop stands at some terminal
+      abbrev IsAt : ℕ → ℕ → Type 0
+      IsAt s port = (row : TerminalRow) × Contains t.terminals row × (row.switch.0 ≡ s) × (row.port ≡ port)
+
+      at_terminal : (s port : ℕ) (rest : List ℕ) (fault : Verdict) → P (1 ∷ lid ∷ s ∷ port ∷ rest) fault → IsAt s port
+      at_terminal s port rest fault f = elim (kind (1 ∷ lid ∷ s ∷ port ∷ rest) fault (choice.fault _ fault f)) [
+        | inl x ↦ absurd (omega (arith, ap (λ (xs : List ℕ). length xs) x.2))
+        | inr y ↦ (y.7.terminal, y.7.path.terminal, y.7.of_source ∙ sym (ap (λ xs. slice_index xs 2) y.6), y.7.at_port ∙ sym (ap (λ xs. slice_index xs 3) y.6))
+      ]
+
+      -- where the starts of a switch at a port and lower ones are clear, none is beneath
+      none_at_port : (s port : ℕ) → ((start : Start) → Contains starts start → start.switch.0 ≡ s → start.port ≤ port → IsClear t l P lid start) → FindsFirst (Beneath (1 ∷ lid ∷ s ∷ port ∷ []) P) None
       none_at_port s port clear rest fault f =
-          let x : IsAt s port = at_start s port rest fault f in
-          (clear x.0 x.1 x.2 x.3).hops rest fault (subst (λ n. P (1 ∷ lid ∷ n ∷ x.0.port ∷ rest) fault) (sym x.2) (subst (λ n. P (1 ∷ lid ∷ s ∷ n ∷ rest) fault) (sym x.3) f))
+          let x : IsAt s port = at_terminal s port rest fault f in
+          let y : IsStoodFor x.0 = stood_for x.0 x.1 in
+          let own : IsClear t l P lid (start_of x.0) = own_clear x.0 y.0 y.1 y.2 (clear y.0 y.1 (y.2.switch ∙ x.2) (omega (arith, y.2.port, x.3))) in
+          own.hops rest fault (subst (λ n. P (1 ∷ lid ∷ n ∷ x.0.port ∷ rest) fault) (sym x.2) (subst (λ n. P (1 ∷ lid ∷ s ∷ n ∷ rest) fault) (sym x.3) f))
 
       -- with a level there is none at a switch itself
       some_level : (s : ℕ) → (IsSource t s → IsConnectedTo t s lid → IsSome (level l s lid)) → (fault : Verdict) → ¬ P (1 ∷ lid ∷ s ∷ []) fault
@@ -208,7 +227,9 @@ module _ (t : Topology) (e : Entries) (l : LaneTables) where
       clear_level : (s : ℕ) → ((start : Start) → Contains starts start → start.switch.0 ≡ s → IsClear t l P lid start) → IsSource t s → IsConnectedTo t s lid → IsSome (level l s lid)
       clear_level s clear source connected =
           let q : (p : TerminalRow) × Contains t.terminals p × (p.switch.0 ≡ s) = terminal_of t.terminals s source in
-          subst (λ n. IsSome (level l n lid)) q.2 ((clear (start_of q.0) (start_there q.0 q.1) q.2).has_level (subst (λ n. IsConnectedTo t n lid) (sym q.2) connected))
+          let y : IsStoodFor q.0 = stood_for q.0 q.1 in
+          let at : y.0.switch.0 ≡ s = y.2.switch ∙ q.2 in
+          subst (λ n. IsSome (level l n lid)) at ((clear y.0 y.1 at).has_level (subst (λ n. IsConnectedTo t n lid) (sym at) connected))
 
       none_at_switch : (s : ℕ) → ((start : Start) → Contains starts start → start.switch.0 ≡ s → IsClear t l P lid start) → FindsFirst (Beneath (1 ∷ lid ∷ s ∷ []) P) None
       none_at_switch s clear = none_beneath (Beneath (1 ∷ lid ∷ s ∷ []) P) (some_level s (clear_level s clear)) (λ port. none_at_port s port (λ start has a b. clear start has a))
@@ -242,18 +263,18 @@ module _ (t : Topology) (e : Entries) (l : LaneTables) where
             (first_beneath (Beneath (1 ∷ lid ∷ start.switch.0 ∷ []) P) (some_level start.switch.0 (λ a b. some)) start.port fault first none_lower) none_below
 
     -- so is a missing level
-    pub first_level : (lid : Lid) (starts : List Start) (are : AreStarts t starts) (index : ℕ) (start : Start) → slice_get starts index ≡ Some start →
+    pub first_level : (lid : Lid) (starts : List Start) (are : AreStartsFor t l starts) (index : ℕ) (start : Start) → slice_get starts index ≡ Some start →
         ((k : ℕ) (other : Start) → k < index → slice_get starts k ≡ Some other → IsClear t l P lid.0 other) → IsConnectedTo t start.switch.0 lid.0 → level l start.switch.0 lid.0 ≡ None →
         IsFirst (Beneath (1 ∷ lid.0 ∷ []) P) (NoLevel lid start.switch)
     first_level lid starts are index start at clear connected none =
         first_beneath (Beneath (1 ∷ lid.0 ∷ []) P) (none_at_lid lid.0) start.switch.0 (NoLevel lid start.switch)
         ([], choice.level _ lid start.switch (refl, source, connected, none), λ earlier other before f. none_before earlier before) (none_below lid.0 starts are index start at clear)
       where
-        of_terminal : IsOfTerminal t start
-        of_terminal = All-contains (IsOfTerminal t) starts start are.terminals (index, slice_get_within starts index start at, get_or_from_slice_get starts index start start at)
+        is_of : IsOfTerminal t start
+        is_of = All-contains (IsOfTerminal t) starts start are.terminals (index, slice_get_within starts index start at, get_or_from_slice_get starts index start start at)
 
         source : IsSource t start.switch.0
-        source = subst (λ n. IsSource t n) (ap (λ (x : Start). x.switch.0) of_terminal.2) (source_of t.terminals of_terminal.0 of_terminal.1.0 of_terminal.1.1 of_terminal.1.2)
+        source = subst (λ n. IsSource t n) (ap (λ (x : Start). x.switch.0) is_of.2) (source_of t.terminals is_of.0 is_of.1.0 is_of.1.1 is_of.1.2)
 
     -- LIDs are looked at in ascending order
     module _ (fits : EntriesFit t e) (index lid : ℕ) (at : slice_get (lids_of t) index ≡ Some lid)
@@ -276,6 +297,17 @@ module _ (t : Topology) (e : Entries) (l : LaneTables) where
       first_by_lid None some first = cc
       first_by_lid (Some fault) some first = first_beneath P none_empty 1 fault (first_beneath (Beneath (1 ∷ []) P) none_at_1 lid fault first none_less) (λ m less. none_at_other m (λ is. omega (arith, is, less)))
 
+      pub one_lid_clear : (found : Option Verdict) → found ≡ None → FindsFirst (Beneath (1 ∷ lid ∷ []) P) found →
+          (k other : ℕ) → k < index + 1 → slice_get (lids_of t) k ≡ Some other → FindsFirst (Beneath (1 ∷ other ∷ []) P) None
+      one_lid_clear found nothing here k other low there = elim (cases_lt k index) [
+        | inl less ↦ none k other less there
+        | inr same ↦
+            (let eq : index ≡ k = omega arith in
+            let is : lid ≡ other = same_Some lid other (sym at ∙ ap (λ n. slice_get (lids_of t) n) eq ∙ there) in
+            let none_here : FindsFirst (Beneath (1 ∷ lid ∷ []) P) None = subst (λ o. FindsFirst (Beneath (1 ∷ lid ∷ []) P) o) nothing here in
+            subst (λ n. FindsFirst (Beneath (1 ∷ n ∷ []) P) None) is none_here)
+      ]
+
     pub none_by_lid : ((k lid : ℕ) → k < length (lids_of t) → slice_get (lids_of t) k ≡ Some lid → FindsFirst (Beneath (1 ∷ lid ∷ []) P) None) → FindsFirst P None
     none_by_lid none = none_beneath P none_empty (λ m. kinds m (cases_eq m 1))
       where
@@ -288,46 +320,19 @@ module _ (t : Topology) (e : Entries) (l : LaneTables) where
         kinds m (inl one) = subst (λ k. FindsFirst (Beneath (k ∷ []) P) None) (sym one) (none_beneath (Beneath (1 ∷ []) P) none_at_1 used)
         kinds m (inr other) = none_at_other m other
 
--- the starts of smaller index are clear, and all of this source are alike
-pub record AreClear (t : Topology) (l : LaneTables) (P : List ℕ → Verdict → Type 0) (lid : ℕ) (starts : List Start) (index : ℕ) (alike : Option SwitchId) : Type 0 where
-  pub clear : (k : ℕ) (start : Start) → k < index → slice_get starts k ≡ Some start → IsClear t l P lid start
-  pub same : (s : SwitchId) → alike ≡ Some s → (l.pairs ≡ []) × ((k : ℕ) × (start : Start) × (k < index) × (slice_get starts k ≡ Some start) × (start.switch.0 ≡ s.0))
+-- the starts of smaller index are clear
+abbrev pub AreClear : Topology → LaneTables → (List ℕ → Verdict → Type 0) → ℕ → List Start → ℕ → Type 0
+AreClear t l P lid starts index = (k : ℕ) (start : Start) → k < index → slice_get starts k ≡ Some start → IsClear t l P lid start
 
 module _ (t : Topology) (e : Entries) (l : LaneTables) (P : List ℕ → Verdict → Type 0) (choice : IsLaneChoice t e l P)
-    (lid : ℕ) (starts : List Start) (are : AreStarts t starts) (index : ℕ) (start : Start) (at : slice_get starts index ≡ Some start) where
-  one_clear_more : ((k : ℕ) (other : Start) → k < index → slice_get starts k ≡ Some other → IsClear t l P lid other) → IsClear t l P lid start →
-      (k : ℕ) (other : Start) → k < index + 1 → slice_get starts k ≡ Some other → IsClear t l P lid other
+    (lid : ℕ) (starts : List Start) (index : ℕ) (start : Start) (at : slice_get starts index ≡ Some start) where
+  pub one_clear_more : AreClear t l P lid starts index → IsClear t l P lid start → AreClear t l P lid starts (index + 1)
   one_clear_more before here k other low there = elim (cases_lt k index) [
     | inl less ↦ before k other less there
     | inr same ↦
         (let eq : index ≡ k = omega arith in
         subst (λ x. IsClear t l P lid x) (same_Some start other (sym at ∙ ap (λ n. slice_get starts n) eq ∙ there)) here)
   ]
-
-  -- the start is clear, and what was alike stays so
-  pub clear_more : (alike : Option SwitchId) → AreClear t l P lid starts index alike → IsClear t l P lid start → AreClear t l P lid starts (index + 1) alike
-  clear_more alike before here = record {
-    clear = one_clear_more before.clear here;
-    same = λ s is. let x : (l.pairs ≡ []) × ((k : ℕ) × (other : Start) × (k < index) × (slice_get starts k ≡ Some other) × (other.switch.0 ≡ s.0)) = before.same s is in
-        (x.0, (x.1.0, x.1.1, omega (arith, x.1.2), x.1.3, x.1.4));
-  }
-
-  -- from now on the starts of its source are alike
-  pub alike_now : (alike : Option SwitchId) → AreClear t l P lid starts index alike → IsClear t l P lid start → l.pairs ≡ [] → AreClear t l P lid starts (index + 1) (Some start.switch)
-  alike_now alike before here plain = record {
-    clear = one_clear_more before.clear here;
-    same = λ s is. (plain, (index, start, omega arith, at, ap (λ (x : SwitchId). x.0) (same_Some start.switch s is)));
-  }
-
-  -- a start of that source is clear
-  pub clear_again : (alike : Option SwitchId) → AreClear t l P lid starts index alike → alike ≡ Some start.switch → IsClear t l P lid start
-  clear_again alike before is = clear_alike t e l P choice x.0 x.1.1 start of_terminal x.1.4 lid (before.clear x.1.0 x.1.1 x.1.2 x.1.3)
-    where
-      x : (l.pairs ≡ []) × ((k : ℕ) × (other : Start) × (k < index) × (slice_get starts k ≡ Some other) × (other.switch.0 ≡ start.switch.0))
-      x = before.same start.switch is
-
-      of_terminal : IsOfTerminal t x.1.1
-      of_terminal = All-contains (IsOfTerminal t) starts x.1.1 are.terminals (x.1.0, slice_get_within starts x.1.0 x.1.1 x.1.3, get_or_from_slice_get starts x.1.0 x.1.1 x.1.1 x.1.3)
 
   -- a start without a fault is clear
   pub found_clear : (found : Option Verdict) → found ≡ None → (level l start.switch.0 lid ≡ None → IsSome found) →
@@ -345,19 +350,19 @@ module _ (t : Topology) (e : Entries) (l : LaneTables) (P : List ℕ → Verdict
           record { has_level = λ c. some; hops = subst (λ o. FindsFirst (Beneath (1 ∷ lid ∷ start.switch.0 ∷ start.port ∷ []) P) o) none (hops some) }
 
 -- the first fault from a start is the first for the LID
-pub found_first : (t : Topology) (e : Entries) (l : LaneTables) (P : List ℕ → Verdict → Type 0) → IsLaneChoice t e l P → (lid : Lid) (starts : List Start) (are : AreStarts t starts) (index : ℕ) (start : Start) → slice_get starts index ≡ Some start →
-    (alike : Option SwitchId) → AreClear t l P lid.0 starts index alike → IsConnectedTo t start.switch.0 lid.0 → (found : Option Verdict) → IsSome found →
+pub found_first : (t : Topology) (e : Entries) (l : LaneTables) (P : List ℕ → Verdict → Type 0) → IsLaneChoice t e l P → (lid : Lid) (starts : List Start) (are : AreStartsFor t l starts) (index : ℕ) (start : Start) → slice_get starts index ≡ Some start →
+    AreClear t l P lid.0 starts index → IsConnectedTo t start.switch.0 lid.0 → (found : Option Verdict) → IsSome found →
     (level l start.switch.0 lid.0 ≡ None → found ≡ Some (NoLevel lid start.switch)) →
     (IsSome (level l start.switch.0 lid.0) → FindsFirst (Beneath (1 ∷ lid.0 ∷ start.switch.0 ∷ start.port ∷ []) P) found) →
     FindsFirst (Beneath (1 ∷ lid.0 ∷ []) P) found
-found_first t e l P choice lid starts are index start at alike before connected None some no_level hops = cc
-found_first t e l P choice lid starts are index start at alike before connected (Some fault) some no_level hops = by_level (level l start.switch.0 lid.0) refl
+found_first t e l P choice lid starts are index start at before connected None some no_level hops = cc
+found_first t e l P choice lid starts are index start at before connected (Some fault) some no_level hops = by_level (level l start.switch.0 lid.0) refl
   where
     by_level : (o : Option ℕ) → level l start.switch.0 lid.0 ≡ o → IsFirst (Beneath (1 ∷ lid.0 ∷ []) P) fault
     by_level None is =
         subst (λ (v : Verdict). IsFirst (Beneath (1 ∷ lid.0 ∷ []) P) v) (sym (same_Some fault (NoLevel lid start.switch) (no_level is)))
-        (first_level t e l P choice lid starts are index start at before.clear connected is)
-    by_level (Some n) is = let has : IsSome (level l start.switch.0 lid.0) = ap is_some is in first_hop t e l P choice lid.0 starts are index start at before.clear fault has (hops has)
+        (first_level t e l P choice lid starts are index start at before connected is)
+    by_level (Some n) is = let has : IsSome (level l start.switch.0 lid.0) = ap is_some is in first_hop t e l P choice lid.0 starts are index start at before fault has (hops has)
 
 -- what isn't told apart is the same
 pub same_option : {A : Type 0} (eq : A → A → Bool) → ((x y : A) → eq x y ≡ true → x ≡ y) → (o : Option A) (y : A) (differs : Bool) → differs ≡ not (option_eq eq o (Some y)) → differs ≡ false → o ≡ Some y
@@ -376,7 +381,7 @@ abbrev pub start_at : List Start → ℕ → Start
 start_at starts k = slice_index_or starts k (record { switch = record { 0 = 0 }; port = 0 })
 
 -- a start is at a switch of the fabric
-pub start_low : (t : Topology) (starts : List Start) (k : ℕ) → IsFabric t → AreStarts t starts → k < length starts → (start_at starts k).switch.0 < length t.switches
+pub start_low : (t : Topology) (starts : List Start) (k : ℕ) → IsFabric t → All (IsOfTerminal t) starts → k < length starts → (start_at starts k).switch.0 < length t.switches
 start_low t starts k fabric are low =
-    let of_terminal : IsOfTerminal t (start_at starts k) = are.terminals k (record { switch = record { 0 = 0 }; port = 0 }) low in
+    let of_terminal : IsOfTerminal t (start_at starts k) = are k (record { switch = record { 0 = 0 }; port = 0 }) low in
     subst (λ (x : Start). x.switch.0 < length t.switches) of_terminal.2 (All-contains (λ row. row.switch.0 < length t.switches) t.terminals of_terminal.0 fabric.rows.terminal_switches of_terminal.1)

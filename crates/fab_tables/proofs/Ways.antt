@@ -43,7 +43,7 @@ module _ (t : Topology) (e : Entries) (lid : ℕ) (toward : IsToward t e lid) (s
   channel_low = channel_there t e lid toward.fabric.rows way.passed s c.0 stepped.0
 
   module _ (to : SwitchId) (comes : option_map (λ (row : ChannelRow). row.tip) (slice_get t.channels c.0) ≡ Some to) where
-    to_tip : tip t c.0 ≡ to.0
+    pub to_tip : tip t c.0 ≡ to.0
     to_tip = tip_is (slice_get t.channels c.0) to comes
 
     pub tip_low : to.0 < length t.switches

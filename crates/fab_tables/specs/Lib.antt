@@ -13,6 +13,9 @@ pub mod Dependencies
 pub mod Reading
 pub mod Certified
 pub mod First
+pub mod LaneFaults
+pub mod HopFaults
+pub mod Judged
 pub mod Verdicts
 pub mod Components
 pub mod Searching

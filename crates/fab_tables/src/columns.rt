@@ -1,3 +1,5 @@
+//! The columns of tables: the LIDs in use, ascending, and for each LID its place among them. A place is found
+//! in constant time by a table of all 65,536 LIDs, which takes 128 KiB.
 ghost use Rattle.std.specs.Prelude.{◌≡◌, ◌<◌, ◌↔◌, length, All, IfOk, IfSome, IsTrue};
 ghost use Rattle.fab_model.specs.Topology.{lids_of};
 ghost use Rattle.fab_tables.specs.Entries.{index_of};
@@ -35,12 +37,10 @@ impl Columns {
         ensures lids { IfOk result (λ c. c ≡ lids_of fabric.now) }
         ensures kept { IfOk result AreLids }
     {
-        let count = fabric.lids();
-        let mut lids = Vec::with_capacity(alloc, count as usize)?;
-        for index in 0..count {
-            if let Some(lid) = fabric.lid_at(index) {
-                lids.push(lid.0)?;
-            }
+        let in_use = fabric.lids_in_use();
+        let mut lids = Vec::with_capacity(alloc, in_use.len())?;
+        for lid in in_use {
+            lids.push(lid.0)?;
         }
         let places = places_of(alloc, &lids)?;
         Ok(Columns { lids, places })
@@ -66,11 +66,12 @@ impl Columns {
     pub(crate) fn are_of(&self, fabric: &Fabric) -> bool
         ensures { IsTrue result ↔ (self.now ≡ lids_of fabric.now) }
     {
-        if self.lids.len() != fabric.lids() as usize {
+        let in_use = fabric.lids_in_use();
+        if self.lids.len() != in_use.len() {
             return false;
         }
-        for (index, lid) in self.lids.iter().enumerate() {
-            if fabric.lid_at(index as u32) != Some(Lid(*lid)) {
+        for (place, lid) in self.lids.iter().enumerate() {
+            if in_use[place].0 != *lid {
                 return false;
             }
         }

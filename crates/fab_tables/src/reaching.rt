@@ -1,4 +1,9 @@
-// Whether all routes are delivered.
+//! Whether all routes are delivered: the first switch, by LID and then by switch connected to it, from which
+//! the entries of forwarding tables don't lead to the LID's place.
+//!
+//! For a LID each switch has one entry, so a route that comes to a switch whose route is delivered is delivered
+//! too: each switch is walked twice for a LID, once to see where its route ends and once to mark it. It takes
+//! no memory but the marks, a byte for each switch.
 ghost use Rattle.std.specs.Prelude.{◌≡◌, ◌<◌, ◌∷◌, [], length, None};
 ghost use Rattle.fab_tables.specs.declared.end.End.TheVariants.{Delivered as delivery};
 ghost use Rattle.fab_tables.specs.Fit.{EntriesFit};
@@ -14,7 +19,8 @@ use crate::tables::Tables;
 use crate::verdict::Verdict;
 use fab_model::{Fabric, Lid, SwitchId};
 
-/// The first route that isn't delivered, by LID and then by switch connected to it.
+/// The first route that isn't delivered, by LID and then by switch connected to it. For each LID it takes two
+/// steps for each switch.
 pub fn first_unreached(
     fabric: &Fabric,
     tables: &Tables,
@@ -26,12 +32,10 @@ pub fn first_unreached(
     requires room { length delivered.old ≡ length fabric.now.switches }
     ensures { FindsFirst (IsFaultAt fabric.now tables.now None) result }
 {
-    for index in 0..fabric.lids() {
-        if let Some(lid) = fabric.lid_at(index) {
-            let unreached = unreached_for(fabric, tables, lid, components, delivered);
-            if unreached.is_some() {
-                return unreached;
-            }
+    for lid in fabric.lids_in_use() {
+        let unreached = unreached_for(fabric, tables, *lid, components, delivered);
+        if unreached.is_some() {
+            return unreached;
         }
     }
     None

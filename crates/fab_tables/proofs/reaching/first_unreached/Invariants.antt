@@ -6,7 +6,7 @@ use Rattle.fab_tables.specs.Verdicts.{IsFaultAt}
 use Rattle.fab_tables.specs.First.{FindsFirst, Beneath}
 use Rattle.fab_tables.proofs.reaching.first_unreached.Given as goal
 
-abbrev pub invariant-loop-index : goal.invariant-loop-index
-invariant-loop-index l =
+abbrev pub invariant-loop-lid : goal.invariant-loop-lid
+invariant-loop-lid l =
     (length l.delivered ≡ length l.fabric.switches)
-    × ((k lid : ℕ) → k < l.index → slice_get (lids_of l.fabric) k ≡ Some lid → FindsFirst (Beneath (0 ∷ lid ∷ []) (IsFaultAt l.fabric l.tables None)) None)
+    × ((k lid : ℕ) → k < l.lid-index → slice_get (lids_of l.fabric) k ≡ Some lid → FindsFirst (Beneath (0 ∷ lid ∷ []) (IsFaultAt l.fabric l.tables None)) None)
