@@ -72,20 +72,6 @@ module _ (g : EdgeList) (levels : List ℕ) (layers : AreLayers g levels) where
         walks = λ q h. (0, sym (only q h));
       }
 
-  -- levels rise along walks, so a node on a closed walk is not taken
-  back_along : (n a b : ℕ) → Walk R n a b → 0 < level_of levels b → (0 < level_of levels a) × (level_of levels a + n ≤ level_of levels b)
-  back_along zero a b w has = (omega (arith, has, ap (level_of levels) w), omega (arith, ap (level_of levels) w))
-  back_along (suc n) a b w has =
-      let rest : (0 < level_of levels w.0) × (level_of levels w.0 + n ≤ level_of levels b) = back_along n w.0 b w.2 has in
-      let one : (0 < level_of levels a) × (level_of levels a < level_of levels w.0) = layers.rises a w.0 w.1 rest.0 in
-      (one.0, omega (arith, one.1, rest.1))
-
-  pub untaken_on_closed : (a : ℕ) → IsOnClosedWalk R a → level_of levels a ≡ 0
-  untaken_on_closed a closed = elim (cases_lt 0 (level_of levels a)) [
-    | inl has ↦ absurd (omega (arith, (back_along (suc closed.0) a a closed.1 has).1))
-    | inr none ↦ omega arith
-  ]
-
   -- where all are taken, each has its level
   pub all_taken : ((b : ℕ) → b < g.nodes → 0 < level_of levels b) → AreNodeLevels g levels
   all_taken taken = record {

@@ -5,7 +5,7 @@ use Rattle.std.proofs.lemmas.Bool.{eq-eqb, ne_eqb, cases_eq}
 use Rattle.std.proofs.lemmas.List.Elements.{All-map, All-filter}
 use Rattle.fab_graph.specs.Walks.{IsEdge}
 use Rattle.fab_rings.specs.EdgeList.{EdgeList, IsGraph}
-use Rattle.fab_rings.specs.Neighbours.{successors_of, predecessors_of, turned_edge}
+use Rattle.fab_rings.specs.Neighbours.{successors_of, predecessors_of}
 use Rattle.fab_rings.specs.Layers.{times}
 use Rattle.fab_rings.proofs.Times.{times_front, none_if_other, counts_there}
 
@@ -70,10 +70,6 @@ successor_there edges a b edge =
 pub predecessor_there : (edges : List (ℕ × ℕ)) (a b : ℕ) → IsEdge edges a b → 0 < times a (predecessors_of edges b)
 predecessor_there edges a b edge =
     counts_there a (predecessors_of edges b) (mapped_there (λ (d : ℕ × ℕ). d.0) (entering b edges) (a, b) (filtered_there (λ (d : ℕ × ℕ). d.1 == b) edges (a, b) edge (eq-eqb b b refl)))
-
--- an edge the other way
-pub mapped_edge : (edges : List (ℕ × ℕ)) (a b : ℕ) → IsEdge edges a b → IsEdge (map turned_edge edges) b a
-mapped_edge edges a b edge = mapped_there turned_edge edges (a, b) edge
 
 -- both ends of an edge are nodes
 pub ends_low : (g : EdgeList) → IsGraph g → (a b : ℕ) → IsEdge g.edges a b → (a < g.nodes) × (b < g.nodes)

@@ -10,3 +10,12 @@ pub mod ReachingTails
 pub mod ReachingLayers
 pub mod LeastAt
 pub mod RingSteps
+pub mod Places
+pub mod HeadTaken
+pub mod Joining
+pub mod Finding
+pub mod Closing
+pub mod Starting
+pub mod NextHead
+pub mod Numbered
+pub mod ComponentWalks

@@ -7,9 +7,9 @@ use Rattle.fab_graph.specs.Least.{IsLeast}
 use Rattle.fab_graph.specs.Rings.{Returns, IsNearness, IsNearer, ReturnsByLeast, IsFirstRing}
 use Rattle.fab_graph.proofs.Graphs
 use Rattle.fab_rings.specs.EdgeList.{EdgeList, IsGraph}
-use Rattle.fab_rings.specs.Neighbours.{successors_of, turned_edge}
+use Rattle.fab_rings.specs.Neighbours.{successors_of}
 use Rattle.fab_rings.specs.Nearness.{near_of, AreNear, StandsAtDistance, IsRingSoFar}
-use Rattle.fab_rings.proofs.EdgesOf.{successor_edge, successor_there, ends_low, mapped_edge}
+use Rattle.fab_rings.proofs.EdgesOf.{successor_edge, successor_there, ends_low}
 
 module _ (g : EdgeList) (first : ℕ) (near : List ℕ) (are : AreNear g first near) where
   abbrev R : ℕ → ℕ → Type 0
@@ -73,16 +73,9 @@ module _ (g : EdgeList) (first : ℕ) (near : List ℕ) (are : AreNear g first n
       let all : ReturnsByLeast R first (so_far.front ++ node ∷ []) = so_far.returns [] last in
       (so_far.begins.0, so_far.begins.1, subst (λ (ns : List ℕ). ReturnsByLeast R first ns) (sym so_far.is ∙ so_far.begins.1) all)
 
-  -- a node with a number of its own is on a closed walk
-  pub on_closed : 0 < near_of near first → IsOnClosedWalk R first
-  on_closed has = go (near_of near first) has (are.right first has).holds.1
-    where
-      go : (n : ℕ) → 0 < n → Walk R n first first → IsOnClosedWalk R first
-      go zero some w = absurd (omega arith)
-      go (suc n) some w = (n, w)
-
-  pub off_closed : near_of near first ≡ 0 → ¬ IsOnClosedWalk R first
-  off_closed none closed = are.others first (suc closed.0) none (omega arith, closed.1)
+  -- a node on a closed walk has a number of its own
+  pub near_itself : IsOnClosedWalk R first → 0 < near_of near first
+  near_itself closed = has_number first (suc closed.0) (omega arith, closed.1)
 
 -- the first ring, where no smaller node is on a closed walk
 pub ring_is_first : (g : EdgeList) (first : ℕ) (ring : List ℕ) → IsOnClosedWalk (IsEdge g.edges) first → ((a : ℕ) → a < first → ¬ IsOnClosedWalk (IsEdge g.edges) a) →
@@ -104,16 +97,3 @@ one_more_off g node below here a low closed = elim (cases_lt a node) [
 -- a closed walk goes through nodes alone
 pub closed_low : (g : EdgeList) → IsGraph g → (a : ℕ) → IsOnClosedWalk (IsEdge g.edges) a → a < g.nodes
 closed_low g kept a closed = (ends_low g kept a closed.1.0 closed.1.1).0
-
--- a closed walk, the other way round
-walk_round : (edges : List (ℕ × ℕ)) (n a b c m : ℕ) → Walk (IsEdge edges) n a b → Walk (IsEdge (map turned_edge edges)) m a c → Walk (IsEdge (map turned_edge edges)) (n + m) b c
-walk_round edges zero a b c m w v = let same : m ≡ 0 + m = omega arith in subst (λ k. Walk (IsEdge (map turned_edge edges)) k b c) same (subst (λ x. Walk (IsEdge (map turned_edge edges)) m x c) w v)
-walk_round edges (suc n) a b c m w v =
-    let longer : Walk (IsEdge (map turned_edge edges)) (suc m) w.0 c = (a, mapped_edge edges a w.0 w.1, v) in
-    let same : n + suc m ≡ suc n + m = omega arith in
-    subst (λ k. Walk (IsEdge (map turned_edge edges)) k b c) same (walk_round edges n w.0 b c (suc m) w.2 longer)
-
-pub turned_closed : (edges : List (ℕ × ℕ)) (a : ℕ) → IsOnClosedWalk (IsEdge edges) a → IsOnClosedWalk (IsEdge (map turned_edge edges)) a
-turned_closed edges a closed =
-    let same : suc closed.0 + 0 ≡ suc closed.0 = omega arith in
-    (closed.0, subst (λ k. Walk (IsEdge (map turned_edge edges)) k a a) same (walk_round edges (suc closed.0) a a a 0 closed.1 refl))

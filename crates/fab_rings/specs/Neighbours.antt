@@ -13,7 +13,3 @@ predecessors_of edges b = map (λ (e : ℕ × ℕ). e.0) (filter (λ (e : ℕ ×
 pub record AreNeighbours (nodes : ℕ) (neighbours_of : ℕ → List ℕ) (lists : List (List ℕ)) : Type 0 where
   pub whole : length lists ≡ nodes
   pub each : (a : ℕ) → a < nodes → slice_index_or lists a [] ≡ neighbours_of a
-
--- an edge the other way
-abbrev pub turned_edge : (ℕ × ℕ) → ℕ × ℕ
-turned_edge e = (e.1, e.0)

@@ -11,13 +11,29 @@ use std::alloc::{AllocError, Global};
 
 /// The level of each node: 1 without a predecessor, else one more than the greatest level of one.
 /// None exactly where a walk is closed.
+///
+/// Time and memory are linear in the nodes and edges. An error comes only for want of memory.
 pub fn levels(alloc: Global, graph: &Graph) -> Result<Option<Vec<u32>>, AllocError>
     ensures { IfOk result (λ found. MatchOption found
         (HasClosedWalk (IsEdge graph.now.edges))
         (λ levels. AreNodeLevels graph.now levels.items)) }
 {
     let successors = Successors::new(alloc, graph)?;
-    let levels = layer_levels(alloc, graph, &successors)?;
+    find_levels(alloc, graph, &successors)
+}
+
+/// The level of each node, where the successors are known.
+pub(crate) fn find_levels(
+    alloc: Global,
+    graph: &Graph,
+    successors: &Successors,
+) -> Result<Option<Vec<u32>>, AllocError>
+    requires { successors.now ≡ graph.now }
+    ensures { IfOk result (λ found. MatchOption found
+        (HasClosedWalk (IsEdge graph.now.edges))
+        (λ levels. AreNodeLevels graph.now levels.items)) }
+{
+    let levels = layer_levels(alloc, graph, successors)?;
     if levels.contains(&0) {
         return Ok(None);
     }
@@ -25,7 +41,7 @@ pub fn levels(alloc: Global, graph: &Graph) -> Result<Option<Vec<u32>>, AllocErr
 }
 
 /// The levels of the nodes behind no closed walk, and 0 for the others.
-pub(crate) fn layer_levels(
+fn layer_levels(
     alloc: Global,
     graph: &Graph,
     successors: &Successors,
