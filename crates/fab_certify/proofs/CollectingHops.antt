@@ -1,38 +1,67 @@
--- The hops of a route are collected one after the other.
-use Rattle.std.proofs.Common.{◌≡◌, ℕ, suc, ◌+◌, ◌*◌, ◌<◌, ◌≤◌, ◌^◌, List, length, refl, sym, ◌∙◌, ap, subst, inl, inr, arith, Contains, Some, None, Option}
+-- The hops of a route are collected one after the other, until those behind are collected already.
+use Rattle.std.proofs.Common.{◌≡◌, ℕ, suc, ◌+◌, ◌*◌, ◌<◌, ◌≤◌, ◌^◌, ◌⊎◌, Bool, true, false, List, [], ◌∷◌, length, drop, refl, sym, ◌∙◌, ap, subst, inl, inr, arith, Contains, Some, None, Option}
 use Rattle.std.specs.Prelude.{IfSome, slice_get}
-use Rattle.std.proofs.lemmas.Bool.{cases_lt}
+use Rattle.std.proofs.lemmas.Bool.{cases_lt, false≢true}
+use Rattle.std.proofs.lemmas.List.{length-drop}
+use Rattle.std.proofs.lemmas.List.Elements.{All-contains}
 use Rattle.std.proofs.lemmas.Nat.{mul-add-lt}
-use Rattle.std.proofs.lemmas.Option.{same_Some, none-some}
+use Rattle.std.proofs.lemmas.Option.{same_Some, none-some, slice_get_within, get_or_from_slice_get}
 use Rattle.std.proofs.Math.Nat.{mul-le-mul_left}
 use Rattle.fab_model.specs.Connected.{IsConnectedTo}
 use Rattle.fab_model.specs.WellFormed.{IsFabric}
+use Rattle.fab_model.specs.declared.rows.ChannelRow.{ChannelRow}
 use Rattle.fab_model.specs.declared.rows.Lid.{Lid}
 use Rattle.fab_model.specs.declared.rows.TerminalRow.{TerminalRow}
 use Rattle.fab_model.specs.Topology.{Topology}
 use Rattle.fab_tables.specs.declared.verdict.VirtualChannel.{VirtualChannel}
 use Rattle.fab_tables.specs.Entries.{Entries}
-use Rattle.fab_tables.specs.LaneTables.{LaneTables}
-use Rattle.fab_tables.specs.VirtualChannels.{virtual_channels}
+use Rattle.fab_tables.specs.LaneTables.{LaneTables, level}
+use Rattle.fab_tables.specs.Route.{route}
+use Rattle.fab_tables.specs.VirtualChannels.{virtual_channels, on_channels, at_level}
 use Rattle.fab_tables.specs.Dependencies.{IsPath, IsUsed, Depends, DependsByNode, node_of}
 use Rattle.fab_tables.proofs.CertifiedLaws.{contains_of}
+use Rattle.fab_tables.proofs.Routes.{channel_there}
+use Rattle.fab_tables.proofs.Ways.{drop_step}
 use Rattle.fab_tables.specs.declared.starts.Start.{Start}
 use Rattle.fab_tables.specs.Starts.{StartsAt}
 use Rattle.fab_certify.specs.Numbered.{IsSound}
-use Rattle.fab_certify.specs.Collected.{Collected, IsMarked, Grows, AddsHop, IsFromRoutes, HasHops, HasRoutes}
-use Rattle.fab_certify.proofs.HopsAlong.{hops_from, same_hops}
+use Rattle.fab_certify.specs.LevelMarks.{IsMarkedAt, Marks}
+use Rattle.fab_certify.specs.Collected.{Collected, IsMarked, Grows, AddsHop, IsFromRoutes, HasHops, HasFirstHops, HasRoutes, hops_behind, HasBehind, AreBehind}
+use Rattle.fab_certify.proofs.BehindHops.{behind_drop, hops_grow, has_rest, joined, all_first}
+use Rattle.fab_certify.proofs.HopChannels.{channel_of_hop}
+use Rattle.fab_certify.proofs.RouteSuffixes.{rest_from}
+
+-- the hops of the route from a start
+abbrev pub hops_from : Topology → Entries → LaneTables → Lid → Start → ℕ → List VirtualChannel
+hops_from t e l lid start of_level = on_channels t l of_level start.port ((route t e start.switch.0 lid.0).channels)
 
 -- the number of the hop before, if there is one
 abbrev pub IsLastNode : ℕ → List VirtualChannel → ℕ → Option ℕ → Type 0
 IsLastNode count hops passed None = passed ≡ 0
 IsLastNode count hops passed (Some m) = (k : ℕ) × (v : VirtualChannel) × (passed ≡ suc k) × (slice_get hops k ≡ Some v) × (node_of count v ≡ m)
 
-pub record IsCollecting (t : Topology) (e : Entries) (l : LaneTables) (hops : List VirtualChannel) (old now : Collected) (passed : ℕ) (before : Option ℕ) : Type 0 where
+-- packets of this level have come to the switch on the way: the route from there is the rest of theirs
+abbrev pub IsPassed : Topology → Entries → Lid → Start → ℕ → ℕ → ℕ → ℕ → Type 0
+IsPassed t e lid start of_level passed s at =
+    (at ≡ of_level) × ((k : ℕ) × (k < passed) × ((route t e s lid.0).channels ≡ drop k (route t e start.switch.0 lid.0).channels))
+
+-- So many hops are collected. Behind each switch that is marked all is collected, or the packets have come to it on their way.
+-- Where all from the last hop on is known to be collected, one hop is left to do.
+pub record IsCollecting (t : Topology) (e : Entries) (l : LaneTables) (lid : Lid) (start : Start) (of_level : ℕ) (old now : Collected) (marks : List ℕ) (passed : ℕ) (before : Option ℕ) (known : Bool) : Type 0 where
   pub from_routes : IsFromRoutes t e l now
   pub grows : Grows old now
-  pub has : HasHops l.count hops passed now
-  pub last : IsLastNode l.count hops passed before
+  pub has : HasFirstHops l.count (hops_from t e l lid start of_level) passed now
+  pub last : IsLastNode l.count (hops_from t e l lid start of_level) passed before
   pub before_low : IfSome before (λ m. m < length now.used)
+  pub marks_each : length marks ≡ length t.switches
+  pub marked : (s at : ℕ) → IsMarkedAt marks s at → HasBehind t e l lid.0 now s at ⊎ IsPassed t e lid start of_level passed s at
+  pub rest : known ≡ true → HasHops l.count (drop passed (hops_from t e l lid start of_level)) now
+
+-- the iterator has these hops before it
+pub record IsCollectingOn (t : Topology) (e : Entries) (l : LaneTables) (lid : Lid) (start : Start) (of_level : ℕ) (left : List VirtualChannel) (old now : Collected) (marks : List ℕ) (before : Option ℕ) (known : Bool) : Type 0 where
+  pub passed : ℕ
+  pub ahead : left ≡ drop passed (hops_from t e l lid start of_level)
+  pub so_far : IsCollecting t e l lid start of_level old now marks passed before known
 
 pub grows_none : (c : Collected) → Grows c c
 grows_none c = record { each = refl; used = λ n h. h; pairs = λ x h. h }
@@ -40,13 +69,25 @@ grows_none c = record { each = refl; used = λ n h. h; pairs = λ x h. h }
 pub grows_on : (a b c : Collected) → Grows a b → Grows b c → Grows a c
 grows_on a b c x y = record { each = y.each ∙ x.each; used = λ n h. y.used n (x.used n h); pairs = λ p h. y.pairs p (x.pairs p h) }
 
-pub begins : (t : Topology) (e : Entries) (l : LaneTables) (hops : List VirtualChannel) (c : Collected) → IsFromRoutes t e l c → IsCollecting t e l hops c c 0 None
-begins t e l hops c from = record {
-  from_routes = from;
-  grows = grows_none c;
-  has = record { used = λ k v low at. absurd (omega arith); pairs = λ k v w low a b. absurd (omega arith) };
-  last = refl;
-  before_low = tt;
+-- what is behind a mark stays collected
+pub behind_grows : (t : Topology) (e : Entries) (l : LaneTables) (lid : ℕ) (marks : List ℕ) (a b : Collected) → Grows a b → AreBehind t e l lid marks a → AreBehind t e l lid marks b
+behind_grows t e l lid marks a b grows are s at is = hops_grow l.count (hops_behind t l at (route t e s lid).channels) a b grows (are s at is)
+
+pub begins : (t : Topology) (e : Entries) (l : LaneTables) (lid : Lid) (start : Start) (of_level : ℕ) (left : List VirtualChannel) (c : Collected) (marks : List ℕ) → left ≡ hops_from t e l lid start of_level →
+    length marks ≡ length t.switches → IsFromRoutes t e l c → AreBehind t e l lid.0 marks c → IsCollectingOn t e l lid start of_level left c c marks None false
+begins t e l lid start of_level left c marks all each from behind = record {
+  passed = 0;
+  ahead = all;
+  so_far = record {
+    from_routes = from;
+    grows = grows_none c;
+    has = record { used = λ k v low at. absurd (omega arith); pairs = λ k v w low a b. absurd (omega arith) };
+    last = refl;
+    before_low = tt;
+    marks_each = each;
+    marked = λ s at is. inl (behind s at is);
+    rest = λ is. absurd (false≢true is);
+  };
 }
 
 -- a number by channel and lane is small
@@ -56,15 +97,25 @@ node_low channels count c lane a b = omega (arith, mul-add-lt c count lane chann
 pub node_fits : (t : Topology) → IsFabric t → (count c lane : ℕ) → count ≤ 15 → c < length t.channels → lane < count → c * count + lane < 2 ^ 32
 node_fits t fabric count c lane few a b = omega (arith, fabric.rows.channel_count, mul-le-mul_left c few)
 
-module _ (t : Topology) (e : Entries) (l : LaneTables) (lid : Lid) (start : Start) (of_level : ℕ) (starts : StartsAt t e l lid.0 start of_level) where
+module _ (t : Topology) (e : Entries) (l : LaneTables) (lid : Lid) (start : Start) (of_level : ℕ) (starts : StartsAt t e l lid.0 start of_level) (sound : IsSound t e l) where
   abbrev hops : List VirtualChannel
   hops = hops_from t e l lid start of_level
+
+  abbrev channels : List ℕ
+  channels = (route t e start.switch.0 lid.0).channels
 
   abbrev row : TerminalRow
   row = starts.terminal.0
 
+  -- a terminal of the start has just these hops
+  same_hops : (p : TerminalRow) → p.switch.0 ≡ start.switch.0 → p.port ≡ start.port → virtual_channels t e l p lid.0 ≡ hops
+  same_hops p a b =
+      ap (λ x. at_level t l p.port ((route t e x lid.0).channels) (level l x lid.0)) a
+      ∙ ap (λ x. at_level t l x ((route t e start.switch.0 lid.0).channels) (level l start.switch.0 lid.0)) b
+      ∙ ap (λ o. at_level t l start.port ((route t e start.switch.0 lid.0).channels) o) starts.has_level
+
   there : virtual_channels t e l row lid.0 ≡ hops
-  there = same_hops t e l lid start of_level starts row (ap (λ (x : Start). x.switch.0) starts.terminal.2) (ap (λ (x : Start). x.port) starts.terminal.2)
+  there = same_hops row (ap (λ (x : Start). x.switch.0) starts.terminal.2) (ap (λ (x : Start). x.port) starts.terminal.2)
 
   path : IsPath t row lid.0
   path = record { terminal = starts.terminal.1; connected = subst (λ (x : Start). IsConnectedTo t x.switch.0 lid.0) (sym starts.terminal.2) starts.connected }
@@ -75,13 +126,67 @@ module _ (t : Topology) (e : Entries) (l : LaneTables) (lid : Lid) (start : Star
   hop_depends : (k : ℕ) (v w : VirtualChannel) → slice_get hops k ≡ Some v → slice_get hops (suc k) ≡ Some w → Depends t e l v w
   hop_depends k v w a b = (row, lid.0, path, (k, ap (λ vs. slice_get vs k) there ∙ a, ap (λ vs. slice_get vs (suc k)) there ∙ b))
 
-  module _ (sound : IsSound t e l) where
-    pub lane_low : (k : ℕ) (v : VirtualChannel) → slice_get hops k ≡ Some v → v.lane < l.count
-    lane_low k v at = sound.lane v (hop_used k v at)
+  channel_at : (k : ℕ) (v : VirtualChannel) → slice_get hops k ≡ Some v → slice_get channels k ≡ Some v.channel.0
+  channel_at k v at = channel_of_hop t l of_level start.port channels k v at
 
-  -- one hop more
-  module _ (old now new : Collected) (passed : ℕ) (before : Option ℕ) (v : VirtualChannel) (so_far : IsCollecting t e l hops old now passed before) (at : slice_get hops passed ≡ Some v)
-      (adds : AddsHop before (node_of l.count v) now new) (low : node_of l.count v < length now.used) where
+  -- the next hop has a channel of the fabric and a lane below the count, and leaves a switch of the fabric
+  pub channel_low : (k : ℕ) (v : VirtualChannel) → slice_get hops k ≡ Some v → v.channel.0 < length t.channels
+  channel_low k v at = channel_there t e lid.0 starts.toward.fabric.rows k start.switch.0 v.channel.0 (channel_at k v at)
+
+  pub start_low : start.switch.0 < length t.switches
+  start_low = subst (λ (x : Start). x.switch.0 < length t.switches) starts.terminal.2 (All-contains (λ (r : TerminalRow). r.switch.0 < length t.switches) t.terminals row starts.toward.fabric.rows.terminal_switches starts.terminal.1)
+
+  pub lane_low : (k : ℕ) (v : VirtualChannel) → slice_get hops k ≡ Some v → v.lane < l.count
+  lane_low k v at = sound.lane v (hop_used k v at)
+
+  pub small_node : (k : ℕ) (v : VirtualChannel) → slice_get hops k ≡ Some v → node_of l.count v < 2 ^ 32
+  small_node k v at = node_fits t starts.toward.fabric l.count v.channel.0 v.lane starts.lanes.whole.count.1 (channel_low k v at) (lane_low k v at)
+
+  pub tail_low : (v : VirtualChannel) (r : ChannelRow) → slice_get t.channels v.channel.0 ≡ Some r → r.tail.0 < length t.switches
+  tail_low v r is = All-contains (λ (x : ChannelRow). x.tail.0 < length t.switches) t.channels r starts.toward.fabric.rows.channel_tails
+      (v.channel.0, slice_get_within t.channels v.channel.0 r is, get_or_from_slice_get t.channels v.channel.0 r r is)
+
+  -- from there the route is the rest of this one
+  rest_at : (k : ℕ) (v : VirtualChannel) (r : ChannelRow) → slice_get hops k ≡ Some v → slice_get t.channels v.channel.0 ≡ Some r → (route t e r.tail.0 lid.0).channels ≡ drop k channels
+  rest_at k v r at is = rest_from t e lid.0 start.switch.0 k v.channel.0 r (sound.reaches start.switch.0 lid.0 starts.connected) (channel_at k v at) is
+
+  -- what is behind a switch on the way
+  behind_at : (k s : ℕ) → (route t e s lid.0).channels ≡ drop k channels → hops_behind t l of_level (route t e s lid.0).channels ≡ drop (suc k) hops
+  behind_at k s same = ap (λ cs. hops_behind t l of_level cs) same ∙ behind_drop t l of_level k start.port channels
+
+  -- a switch is passed but once
+  passed_once : (j k s : ℕ) (v : VirtualChannel) → j < k → slice_get hops k ≡ Some v → (route t e s lid.0).channels ≡ drop j channels → (route t e s lid.0).channels ≡ drop k channels → ⊥
+  passed_once j k s v less at a b = omega (
+    arith,
+    less,
+    slice_get_within channels k v.channel.0 (channel_at k v at),
+    length-drop j channels,
+    length-drop k channels,
+    ap (λ (xs : List ℕ). length xs) (sym a ∙ b),
+  )
+
+  -- with all hops collected, behind each mark all is
+  behind_all : (old now : Collected) (marks : List ℕ) (passed : ℕ) (before : Option ℕ) (known : Bool) → IsCollecting t e l lid start of_level old now marks passed before known → HasHops l.count hops now →
+      AreBehind t e l lid.0 marks now
+  behind_all old now marks passed before known so_far all s at is = elim (so_far.marked s at is) [
+    | inl behind ↦ behind
+    | inr way ↦
+        (let at_level_is : hops_behind t l at (route t e s lid.0).channels ≡ drop (suc way.1.0) hops = ap (λ n. hops_behind t l n (route t e s lid.0).channels) way.0 ∙ behind_at way.1.0 s way.1.2 in
+        subst (λ vs. HasHops l.count vs now) (sym at_level_is) (has_rest l.count hops (suc way.1.0) now all))
+  ]
+
+  -- and so have all terminals of the start
+  routes_of : (now : Collected) → HasHops l.count hops now → HasRoutes t e l lid.0 start now
+  routes_of now all p to_lid is =
+      subst (λ vs. HasHops l.count vs now) (sym (same_hops p (ap (λ (x : Start). x.switch.0) is) (ap (λ (x : Start). x.port) is))) all
+
+  -- the number of the next hop is below the count of numbers
+  pub node_below : (now : Collected) (passed : ℕ) (v : VirtualChannel) → IsFromRoutes t e l now → slice_get hops passed ≡ Some v → node_of l.count v < length now.used
+  node_below now passed v from at = omega (arith, node_low (length t.channels) l.count v.channel.0 v.lane (channel_low passed v at) (lane_low passed v at), from.each)
+
+  -- a hop is added
+  module _ (old now new : Collected) (marks : List ℕ) (passed : ℕ) (before : Option ℕ) (known : Bool) (v : VirtualChannel) (so_far : IsCollecting t e l lid start of_level old now marks passed before known)
+      (at : slice_get hops passed ≡ Some v) (adds : AddsHop before (node_of l.count v) now new) where
     used : (n : ℕ) → IsMarked new n → (w : VirtualChannel) × IsUsed t e l w × (node_of l.count w ≡ n)
     used n is = elim (adds.marked_only n is) [ inl was ↦ so_far.from_routes.used n was | inr same ↦ (v, hop_used passed v at, sym same) ]
 
@@ -119,20 +224,91 @@ module _ (t : Topology) (e : Entries) (l : LaneTables) (lid : Lid) (start : Star
             let second : v ≡ w = same_Some v w (sym at ∙ ap (λ i. slice_get hops i) same ∙ b) in
             subst (λ (x : VirtualChannel). Contains new.pairs (node_of l.count u, node_of l.count x)) second (subst (λ n. Contains new.pairs (n, node_of l.count v)) first paired)
 
-    pub collects_hop : IsCollecting t e l hops old new (suc passed) (Some (node_of l.count v))
-    collects_hop = record {
-      from_routes = record { each = adds.grows.each ∙ so_far.from_routes.each; used = used; pairs = pairs };
-      grows = grows_on old now new so_far.grows adds.grows;
-      has = record { used = has_used; pairs = has_pairs };
+    from_routes_now : IsFromRoutes t e l new
+    from_routes_now = record { each = adds.grows.each ∙ so_far.from_routes.each; used = used; pairs = pairs }
+
+    grows_now : Grows old new
+    grows_now = grows_on old now new so_far.grows adds.grows
+
+    has_now : HasFirstHops l.count hops (suc passed) new
+    has_now = record { used = has_used; pairs = has_pairs }
+
+    -- what was behind a mark stays there
+    marked_still : (s on : ℕ) → IsMarkedAt marks s on → HasBehind t e l lid.0 new s on ⊎ IsPassed t e lid start of_level (suc passed) s on
+    marked_still s on is = elim (so_far.marked s on is) [
+      | inl behind ↦ inl (hops_grow l.count (hops_behind t l on (route t e s lid.0).channels) now new adds.grows behind)
+      | inr way ↦ inr (way.0, (way.1.0, omega (arith, way.1.1), way.1.2))
+    ]
+
+    hop_added : IsCollecting t e l lid start of_level old new marks (suc passed) (Some (node_of l.count v)) false
+    hop_added = record {
+      from_routes = from_routes_now;
+      grows = grows_now;
+      has = has_now;
       last = (passed, v, refl, at, refl);
-      before_low = omega (arith, low, adds.grows.each);
+      before_low = omega (arith, node_below now passed v so_far.from_routes at, adds.grows.each);
+      marks_each = so_far.marks_each;
+      marked = marked_still;
+      rest = λ is. absurd (false≢true is);
     }
 
-  -- at the end of the route all terminals of the start have their hops
-  pub has_routes : (old now : Collected) (passed : ℕ) (before : Option ℕ) → IsCollecting t e l hops old now passed before → length hops ≤ passed → HasRoutes t e l lid.0 start now
-  has_routes old now passed before so_far all p to_lid is =
-      let same : virtual_channels t e l p lid.0 ≡ hops = same_hops t e l lid start of_level starts p (ap (λ (x : Start). x.switch.0) is) (ap (λ (x : Start). x.port) is) in
-      subst (λ vs. HasHops l.count vs (length vs) now) (sym same) (record {
-        used = λ k v low at. so_far.has.used k v (omega (arith, low, all)) at;
-        pairs = λ k v w low a b. so_far.has.pairs k v w (omega (arith, low, all)) a b;
-      })
+    -- where all from here on was known to be collected, the route is
+    known_hops : known ≡ true → HasHops l.count hops new
+    known_hops is = joined l.count hops passed new has_now (hops_grow l.count (drop passed hops) now new adds.grows (so_far.rest is))
+
+    pub known_routes : known ≡ true → HasRoutes t e l lid.0 start new
+    known_routes is = routes_of new (known_hops is)
+
+    pub known_behind : known ≡ true → AreBehind t e l lid.0 marks new
+    known_behind is = behind_all old new marks (suc passed) (Some (node_of l.count v)) false hop_added (known_hops is)
+
+    pub known_from_routes : IsFromRoutes t e l new
+    known_from_routes = from_routes_now
+
+    pub known_grows : Grows old new
+    known_grows = grows_now
+
+    -- the switch that the hop leaves is marked
+    module _ (r : ChannelRow) (is_row : slice_get t.channels v.channel.0 ≡ Some r) (new_marks : List ℕ) (was : Bool) (told : (was ≡ true → IsMarkedAt marks r.tail.0 of_level) × (IsMarkedAt marks r.tail.0 of_level → was ≡ true))
+        (marking : Marks r.tail.0 of_level marks new_marks) where
+      on_way : (route t e r.tail.0 lid.0).channels ≡ drop passed channels
+      on_way = rest_at passed v r at is_row
+
+      behind_here : was ≡ true → HasHops l.count (drop (suc passed) hops) new
+      behind_here is = elim (so_far.marked r.tail.0 of_level (told.0 is)) [
+        | inl behind ↦
+            subst (λ vs. HasHops l.count vs new) (behind_at passed r.tail.0 on_way)
+            (hops_grow l.count (hops_behind t l of_level (route t e r.tail.0 lid.0).channels) now new adds.grows behind)
+        | inr way ↦ absurd (passed_once way.1.0 passed r.tail.0 v way.1.1 at way.1.2 on_way)
+      ]
+
+      pub hop_marked : IsCollecting t e l lid start of_level old new new_marks (suc passed) (Some (node_of l.count v)) was
+      hop_marked = record {
+        from_routes = from_routes_now;
+        grows = grows_now;
+        has = has_now;
+        last = (passed, v, refl, at, refl);
+        before_low = hop_added.before_low;
+        marks_each = marking.each ∙ so_far.marks_each;
+        marked = λ s on is. elim (marking.only s on is) [
+          | inl before_it ↦ marked_still s on before_it
+          | inr here ↦ inr (here.1, (passed, omega arith, ap (λ x. (route t e x lid.0).channels) here.0 ∙ on_way))
+        ];
+        rest = behind_here;
+      }
+
+  -- the iterator gives a hop
+  pub next_hop : (left after : List VirtualChannel) (passed : ℕ) (v : VirtualChannel) → left ≡ drop passed hops → left ≡ v ∷ after → (slice_get hops passed ≡ Some v) × (after ≡ drop (suc passed) hops)
+  next_hop left after passed v ahead takes = drop_step hops after passed v (sym takes ∙ ahead)
+
+  -- at the end of the route all is collected
+  module _ (old now : Collected) (marks : List ℕ) (before : Option ℕ) (known : Bool) (left : List VirtualChannel) (on : IsCollectingOn t e l lid start of_level left old now marks before known) (over : left ≡ []) where
+    all_hops : HasHops l.count hops now
+    all_hops = all_first l.count hops on.passed now on.so_far.has
+        (omega (arith, length-drop on.passed hops, ap (λ (xs : List VirtualChannel). length xs) (sym over ∙ on.ahead)))
+
+    pub has_routes : HasRoutes t e l lid.0 start now
+    has_routes = routes_of now all_hops
+
+    pub are_behind : AreBehind t e l lid.0 marks now
+    are_behind = behind_all old now marks on.passed before known on.so_far all_hops

@@ -1,5 +1,5 @@
 -- Routes are collected from start to start, and from LID to LID.
-use Rattle.std.proofs.Common.{◌≡◌, ℕ, suc, ◌+◌, ◌*◌, ◌<◌, ◌≤◌, ◌^◌, Bool, false, List, [], length, replicate, refl, sym, ◌∙◌, ap, subst, inl, inr, arith, Contains, Some, None, Option, slice_get}
+use Rattle.std.proofs.Common.{◌≡◌, ℕ, ◌+◌, ◌*◌, ◌<◌, ◌≤◌, ◌^◌, Bool, false, List, [], length, replicate, refl, sym, ◌∙◌, ap, subst, inl, inr, arith, Contains, Some, None, Option, slice_get}
 use Rattle.std.specs.Prelude.{slice_index_or, IsSome}
 use Rattle.std.proofs.lemmas.Bool.{cases_lt, false≢true}
 use Rattle.std.proofs.lemmas.List.{get_or-replicate, get_or_past, length-replicate}
@@ -24,17 +24,12 @@ use Rattle.fab_tables.specs.Starts.{start_of, IsOfTerminal, AreStarts}
 use Rattle.fab_tables.proofs.Lids.{connected_in_use}
 use Rattle.fab_certify.specs.Numbered.{IsSound}
 use Rattle.fab_certify.specs.Collected.{Collected, IsMarked, Grows, IsFromRoutes, HasHops, HasRoutes, HasRoutesFor, AreDependencies}
+use Rattle.fab_certify.proofs.BehindHops.{hops_grow}
 use Rattle.fab_certify.proofs.CollectingHops.{grows_none, grows_on}
-
-hops_grow : (count : ℕ) (hops : List VirtualChannel) (n : ℕ) (a b : Collected) → Grows a b → HasHops count hops n a → HasHops count hops n b
-hops_grow count hops n a b grows has = record {
-  used = λ k v low at. grows.used (node_of count v) (has.used k v low at);
-  pairs = λ k v w low x y. grows.pairs (node_of count v, node_of count w) (has.pairs k v w low x y);
-}
 
 module _ (t : Topology) (e : Entries) (l : LaneTables) where
   routes_grow : (lid : ℕ) (start : Start) (a b : Collected) → Grows a b → HasRoutes t e l lid start a → HasRoutes t e l lid start b
-  routes_grow lid start a b grows has p path is = hops_grow l.count (virtual_channels t e l p lid) (length (virtual_channels t e l p lid)) a b grows (has p path is)
+  routes_grow lid start a b grows has p path is = hops_grow l.count (virtual_channels t e l p lid) a b grows (has p path is)
 
   -- from a start that isn't connected, or has no level, there is no route
   pub routes_apart : (lid : ℕ) (start : Start) (c : Collected) → ¬ IsConnectedTo t start.switch.0 lid → HasRoutes t e l lid start c
@@ -57,7 +52,7 @@ module _ (t : Topology) (e : Entries) (l : LaneTables) where
       let row_path : IsPath t row lid = record { terminal = of_terminal.1; connected = subst (λ s. IsConnectedTo t s lid) switches path.connected } in
       let hops : virtual_channels t e l row lid ≡ virtual_channels t e l p lid =
       same_channels t e l plain row lid ∙ ap (λ s. plain_channels t e l s lid) (sym switches) ∙ sym (same_channels t e l plain p lid) in
-      subst (λ vs. HasHops l.count vs (length vs) c) hops (has row row_path of_terminal.2)
+      subst (λ vs. HasHops l.count vs c) hops (has row row_path of_terminal.2)
 
 -- the starts of smaller index are collected, and all of this source are alike
 pub record AreCollectedFrom (t : Topology) (e : Entries) (l : LaneTables) (lid : ℕ) (starts : List Start) (old now : Collected) (index : ℕ) (alike : Option SwitchId) : Type 0 where
@@ -140,7 +135,7 @@ module _ (t : Topology) (e : Entries) (l : LaneTables) where
   pub one_lid_more : (index lid : ℕ) (a b : Collected) → slice_get (lids_of t) index ≡ Some lid → ((k other : ℕ) → k < index → slice_get (lids_of t) k ≡ Some other → HasRoutesFor t e l other a) → Grows a b → HasRoutesFor t e l lid b →
       (k other : ℕ) → k < index + 1 → slice_get (lids_of t) k ≡ Some other → HasRoutesFor t e l other b
   one_lid_more index lid a b at before grows here k other low there = elim (cases_lt k index) [
-    | inl less ↦ (λ p path. hops_grow l.count (virtual_channels t e l p other) (length (virtual_channels t e l p other)) a b grows (before k other less there p path))
+    | inl less ↦ (λ p path. hops_grow l.count (virtual_channels t e l p other) a b grows (before k other less there p path))
     | inr same ↦
         (let eq : index ≡ k = omega arith in
         subst (λ n. HasRoutesFor t e l n b) (same_Some lid other (sym at ∙ ap (λ n. slice_get (lids_of t) n) eq ∙ there)) here)
@@ -150,19 +145,19 @@ module _ (t : Topology) (e : Entries) (l : LaneTables) where
   pub are_dependencies : (c : Collected) → IsFromRoutes t e l c → ((k lid : ℕ) → k < length (lids_of t) → slice_get (lids_of t) k ≡ Some lid → HasRoutesFor t e l lid c) → AreDependencies t e l c
   are_dependencies c from has = record { from_routes = from; used = used; pairs = pairs }
     where
-      routes : (p : TerminalRow) (lid : ℕ) → IsPath t p lid → HasHops l.count (virtual_channels t e l p lid) (length (virtual_channels t e l p lid)) c
+      routes : (p : TerminalRow) (lid : ℕ) → IsPath t p lid → HasHops l.count (virtual_channels t e l p lid) c
       routes p lid path =
           let in_use : Contains (lids_of t) lid = connected_in_use t p.switch.0 lid path.connected in
           has in_use.0 lid in_use.1 (get_of (lids_of t) in_use.0 lid in_use.1 in_use.2) p path
 
       used : (v : VirtualChannel) → IsUsed t e l v → IsMarked c (node_of l.count v)
-      used v u = (routes u.0 u.1 u.2).used u.3.0 v u.3.1 (get_of (virtual_channels t e l u.0 u.1) u.3.0 v u.3.1 u.3.2)
+      used v u = (routes u.0 u.1 u.2).used u.3.0 v (get_of (virtual_channels t e l u.0 u.1) u.3.0 v u.3.1 u.3.2)
 
       pairs : (m n : ℕ) → DependsByNode t e l m n → Contains c.pairs (m, n)
       pairs m n x =
           let d : Depends t e l x.0 x.1 = x.2 in
           let has_pair : Contains c.pairs (node_of l.count x.0, node_of l.count x.1) =
-          (routes d.0 d.1 d.2).pairs d.3.0 x.0 x.1 (slice_get_within (virtual_channels t e l d.0 d.1) (suc d.3.0) x.1 d.3.2) d.3.1 d.3.2 in
+          (routes d.0 d.1 d.2).pairs d.3.0 x.0 x.1 d.3.1 d.3.2 in
           subst (λ k. Contains c.pairs (m, k)) x.4 (subst (λ k. Contains c.pairs (k, node_of l.count x.1)) x.3 has_pair)
 
 pub nodes_fit : (t : Topology) → IsFabric t → (count : ℕ) → count ≤ 15 → length t.channels * count < 2 ^ 32

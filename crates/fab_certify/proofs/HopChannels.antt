@@ -12,7 +12,7 @@ use Rattle.fab_tables.specs.VirtualChannels.{virtual_channels, on_channels, at_l
 use Rattle.fab_tables.specs.Dependencies.{IsUsed}
 use Rattle.fab_tables.proofs.CertifiedLaws.{get_of, route_there}
 
-channel_of_hop : (t : Topology) (l : LaneTables) (of_level from : ℕ) (cs : List ℕ) (k : ℕ) (v : VirtualChannel) → slice_get (on_channels t l of_level from cs) k ≡ Some v → slice_get cs k ≡ Some v.channel.0
+pub channel_of_hop : (t : Topology) (l : LaneTables) (of_level from : ℕ) (cs : List ℕ) (k : ℕ) (v : VirtualChannel) → slice_get (on_channels t l of_level from cs) k ≡ Some v → slice_get cs k ≡ Some v.channel.0
 channel_of_hop t l of_level from [] k v at = absurd (none-some v at)
 channel_of_hop t l of_level from (c ∷ cs) zero v at = ap (λ (w : VirtualChannel). Some w.channel.0) (same_Some _ v at)
 channel_of_hop t l of_level from (c ∷ cs) (suc k) v at = channel_of_hop t l of_level (arrival (slice_get t.channels c)) cs k v at

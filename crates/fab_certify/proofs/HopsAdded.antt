@@ -1,57 +1,16 @@
 -- A hop is added to what is collected.
-use Rattle.std.proofs.Common.{◌≡◌, ◌≢◌, ℕ, zero, suc, ◌<◌, Bool, true, false, not, List, [], ◌∷◌, length, refl, sym, ◌∙◌, ap, subst, inl, inr, ◌⊎◌, arith, Contains, MatchBool, Some, None, get_or-set_same, get_or-set_other}
-use Rattle.std.specs.Prelude.{◌==◌, ◌&&◌, slice_index_or, slice_set}
-use Rattle.std.specs.List.{list_any}
-use Rattle.std.specs.List.Sorted.{IsPermutation}
-use Rattle.std.proofs.lemmas.Bool.{eqb-true, and_parts, or_cases, cases_eq, false≢true}
+use Rattle.std.proofs.Common.{◌≡◌, ◌≢◌, ℕ, zero, suc, ◌<◌, Bool, true, false, List, [], ◌∷◌, ◌++◌, length, refl, sym, ◌∙◌, ap, subst, inl, inr, ◌⊎◌, arith, Contains, Some, None, get_or-set_same, get_or-set_other, Result, Ok, Err}
+use Rattle.std.specs.Prelude.{slice_index_or, slice_set, OnOk, OnErr}
+use Rattle.std.proofs.lemmas.Bool.{cases_eq}
 use Rattle.std.proofs.lemmas.List.{length-set}
-use Rattle.std.proofs.lemmas.List.Elements.{Contains-get_or, All-contains}
-use Rattle.std.proofs.lemmas.List.Sorted.{IsPermutation-sym, Contains-permutation}
-use Rattle.fab_certify.specs.Collected.{AreCollected, AddsHop}
+use Rattle.std.proofs.lemmas.List.Elements.{Contains-append_left, Contains-append_right, Contains-append_cases}
+use Rattle.fab_graph.specs.Walks.{IsEdge}
+use Rattle.fab_rings.specs.EdgeList.{EdgeList}
+use Rattle.fab_certify.specs.Collected.{AreFollowers, AddsHop}
 
-abbrev pub same_pair : (ℕ × ℕ) → (ℕ × ℕ) → Bool
-same_pair x y = (x.0 == y.0) && (x.1 == y.1)
-
-later : {A : Type 0} (y : A) (xs : List A) (x : A) → Contains xs x → Contains (y ∷ xs) x
-later y xs x has = (suc has.0, omega (arith, has.1), has.2)
-
-here_or_later : {A : Type 0} (y : A) (ys : List A) (x : A) → Contains (y ∷ ys) x → (y ≡ x) ⊎ Contains ys x
-here_or_later y ys x has = go has.0 has.1 has.2
-  where
-    go : (k : ℕ) → k < length (y ∷ ys) → slice_index_or (y ∷ ys) k x ≡ x → (y ≡ x) ⊎ Contains ys x
-    go zero low e = inl e
-    go (suc k) low e = inr (k, omega arith, e)
-
-any_there : (x : ℕ × ℕ) (ys : List (ℕ × ℕ)) → list_any (same_pair x) ys ≡ true → Contains ys x
-any_there x [] h = absurd (false≢true h)
-any_there x (y ∷ ys) h = elim (or_cases (same_pair x y) (list_any (same_pair x) ys) h) [
-  | inl same ↦
-      (let both : ((x.0 == y.0) ≡ true) × ((x.1 == y.1) ≡ true) = and_parts (x.0 == y.0) (x.1 == y.1) same in
-      let first : x.0 ≡ y.0 = eqb-true x.0 y.0 both.0 in
-      let second : x.1 ≡ y.1 = eqb-true x.1 y.1 both.1 in
-      (0, omega arith, ap (λ (n : ℕ). (n, y.1)) (sym first) ∙ ap (λ (n : ℕ). (x.0, n)) (sym second)))
-  | inr rest ↦ later y ys x (any_there x ys rest)
-]
-
-abbrev pub Puts : List (ℕ × ℕ) → List (ℕ × ℕ) → (ℕ × ℕ) → Bool → Type 0
-Puts old new x added = MatchBool added (IsPermutation (x ∷ old) new) (new ≡ old)
-
-put_only : (old new : List (ℕ × ℕ)) (x : ℕ × ℕ) (added : Bool) → Puts old new x added → (y : ℕ × ℕ) → Contains new y → Contains old y ⊎ (y ≡ x)
-put_only old new x true puts y has =
-    elim (here_or_later x old y (Contains-permutation new (x ∷ old) y (IsPermutation-sym (x ∷ old) new puts) has)) [ inl same ↦ inr (sym same) | inr before ↦ inl before ]
-put_only old new x false puts y has = inl (subst (λ (xs : List (ℕ × ℕ)). Contains xs y) puts has)
-
-put_kept : (old new : List (ℕ × ℕ)) (x : ℕ × ℕ) (added : Bool) → Puts old new x added → (y : ℕ × ℕ) → Contains old y → Contains new y
-put_kept old new x true puts y has = Contains-permutation (x ∷ old) new y puts (later x old y has)
-put_kept old new x false puts y has = subst (λ (xs : List (ℕ × ℕ)). Contains xs y) (sym puts) has
-
-put_new : (old new : List (ℕ × ℕ)) (x : ℕ × ℕ) (added : Bool) → Puts old new x added → added ≡ not (list_any (same_pair x) old) → Contains new x
-put_new old new x true puts was = Contains-permutation (x ∷ old) new x puts (0, omega arith, refl)
-put_new old new x false puts was = subst (λ (xs : List (ℕ × ℕ)). Contains xs x) (sym puts) (any_there x old (had (list_any (same_pair x) old) was))
-  where
-    had : (b : Bool) → false ≡ not b → b ≡ true
-    had true e = refl
-    had false e = absurd (false≢true e)
+in_one : {A : Type 0} (x y : A) → Contains (x ∷ []) y → y ≡ x
+in_one x y (zero, low, is) = sym is
+in_one x y (suc k, low, is) = absurd (omega (arith, low))
 
 module _ (used : List Bool) (node : ℕ) (low : node < length used) where
   marked : slice_index_or (slice_set used node true) node false ≡ true
@@ -76,25 +35,71 @@ module _ (used : List Bool) (node : ℕ) (low : node < length used) where
     paired_only = λ x has. inl has;
   }
 
-  pub adds_next : (old new : List (ℕ × ℕ)) (first : ℕ) (added : Bool) → Puts old new (first, node) added → added ≡ not (list_any (same_pair (first, node)) old) →
-      AddsHop (Some first) node (record { used = used; pairs = old }) (record { used = slice_set used node true; pairs = new })
-  adds_next old new first added puts was = record {
-    grows = record { each = length-set used node true; used = still_marked; pairs = put_kept old new (first, node) added puts };
+  -- the pair stands already
+  pub adds_again : (pairs : List (ℕ × ℕ)) (first : ℕ) → Contains pairs (first, node) → AddsHop (Some first) node (record { used = used; pairs = pairs }) (record { used = slice_set used node true; pairs = pairs })
+  adds_again pairs first has = record {
+    grows = record { each = length-set used node true; used = still_marked; pairs = λ x had. had };
     marked = marked;
     marked_only = marked_only;
-    paired = put_new old new (first, node) added puts was;
-    paired_only = λ x has. elim (put_only old new (first, node) added puts x has) [
+    paired = has;
+    paired_only = λ x had. inl had;
+  }
+
+  -- it is new
+  pub adds_next : (pairs : List (ℕ × ℕ)) (first : ℕ) → AddsHop (Some first) node (record { used = used; pairs = pairs }) (record { used = slice_set used node true; pairs = pairs ++ (first, node) ∷ [] })
+  adds_next pairs first = record {
+    grows = record { each = length-set used node true; used = still_marked; pairs = λ x had. Contains-append_left pairs ((first, node) ∷ []) x had };
+    marked = marked;
+    marked_only = marked_only;
+    paired = Contains-append_right pairs ((first, node) ∷ []) (first, node) (0, omega arith, refl);
+    paired_only = λ x had. elim (Contains-append_cases pairs ((first, node) ∷ []) x had) [
       | inl before ↦ inl before
-      | inr same ↦ inr (ap (λ (y : ℕ × ℕ). Some y.0) (sym same), ap (λ (y : ℕ × ℕ). y.1) same)
+      | inr here ↦ (let same : x ≡ (first, node) = in_one (first, node) x here in inr (ap (λ (y : ℕ × ℕ). Some y.0) (sym same), ap (λ (y : ℕ × ℕ). y.1) same))
     ];
   }
 
-  pub still_collected : (old new : List (ℕ × ℕ)) (first : ℕ) (added : Bool) → first < length used → Puts old new (first, node) added → AreCollected (record { used = used; pairs = old }) →
-      AreCollected (record { used = slice_set used node true; pairs = new })
-  still_collected old new first added below puts kept k d at = elim (put_only old new (first, node) added puts (slice_index_or new k d) (Contains-get_or new k d at)) [
-    | inl before ↦
-        (let both : ((slice_index_or new k d).0 < length used) × ((slice_index_or new k d).1 < length used) = All-contains (λ (x : ℕ × ℕ). (x.0 < length used) × (x.1 < length used)) old (slice_index_or new k d) kept before in
-        (omega (arith, both.0, length-set used node true), omega (arith, both.1, length-set used node true)))
-    | inr same ↦
-        (omega (arith, below, ap (λ (x : ℕ × ℕ). x.0) same, length-set used node true), omega (arith, low, ap (λ (x : ℕ × ℕ). x.1) same, length-set used node true))
-  ]
+-- the lists of followers stay edges
+module _ (used : List Bool) (g : EdgeList) (followers : List (List ℕ)) (are : AreFollowers used g followers) where
+  pub followers_still : (node : ℕ) → AreFollowers (slice_set used node true) g followers
+  followers_still node = record { nodes = are.nodes ∙ sym (length-set used node true); lists = are.lists ∙ sym (length-set used node true); edges = are.edges }
+
+  -- an edge is added
+  pub followers_edge : (node : ℕ) (x : ℕ × ℕ) → AreFollowers (slice_set used node true) (record g { edges = g.edges ++ x ∷ [] }) followers
+  followers_edge node x = record {
+    nodes = are.nodes ∙ sym (length-set used node true);
+    lists = are.lists ∙ sym (length-set used node true);
+    edges = λ a b has. Contains-append_left g.edges (x ∷ []) (a, b) (are.edges a b has);
+  }
+
+  -- and its follower
+  pub followers_next : (node first : ℕ) → first < length used →
+      AreFollowers (slice_set used node true) (record g { edges = g.edges ++ (first, node) ∷ [] }) (slice_set followers first (slice_index_or followers first [] ++ node ∷ []))
+  followers_next node first low = record {
+    nodes = are.nodes ∙ sym (length-set used node true);
+    lists = length-set followers first here ∙ are.lists ∙ sym (length-set used node true);
+    edges = λ a b has. elim (cases_eq a first) [
+      | inr other ↦ Contains-append_left g.edges ((first, node) ∷ []) (a, b) (are.edges a b (subst (λ xs. Contains xs b) (get_or-set_other followers first a here [] other) has))
+      | inl same ↦
+          elim (Contains-append_cases (slice_index_or followers first []) (node ∷ []) b (subst (λ xs. Contains xs b) (ap (λ n. slice_index_or (slice_set followers first here) n []) same ∙ get_or-set_same followers first here [] (omega (arith, low, are.lists))) has)) [
+            | inl before ↦ Contains-append_left g.edges ((first, node) ∷ []) (a, b) (subst (λ n. IsEdge g.edges n b) (sym same) (are.edges first b before))
+            | inr new ↦
+                (let there : b ≡ node = in_one node b new in
+                Contains-append_right g.edges ((first, node) ∷ []) (a, b) (0, omega arith, ap (λ (n : ℕ). (n, node)) (sym same) ∙ ap (λ (n : ℕ). (a, n)) (sym there)))
+          ]
+    ];
+  }
+    where
+      here : List ℕ
+      here = slice_index_or followers first [] ++ node ∷ []
+
+  -- as the pushes answer
+  pub edge_pushed : {T E : Type 0} (node first : ℕ) (r : Result T E) (new : EdgeList) → OnOk r (new ≡ record g { edges = g.edges ++ (first, node) ∷ [] }) → OnErr r (new ≡ g) → AreFollowers (slice_set used node true) new followers
+  edge_pushed node first (Ok x) new ok err = subst (λ (h : EdgeList). AreFollowers (slice_set used node true) h followers) (sym ok) (followers_edge node (first, node))
+  edge_pushed node first (Err x) new ok err = subst (λ (h : EdgeList). AreFollowers (slice_set used node true) h followers) (sym err) (followers_still node)
+
+  pub follower_pushed : {T E : Type 0} (node first : ℕ) → first < length used → (h : EdgeList) → h ≡ record g { edges = g.edges ++ (first, node) ∷ [] } → (r : Result T E) (new : List (List ℕ)) →
+      OnOk r (new ≡ slice_set followers first (slice_index_or followers first [] ++ node ∷ [])) → OnErr r (new ≡ followers) → AreFollowers (slice_set used node true) h new
+  follower_pushed node first low h is (Ok x) new ok err =
+      subst (λ (k : EdgeList). AreFollowers (slice_set used node true) k new) (sym is) (subst (λ ls. AreFollowers (slice_set used node true) (record g { edges = g.edges ++ (first, node) ∷ [] }) ls) (sym ok) (followers_next node first low))
+  follower_pushed node first low h is (Err x) new ok err =
+      subst (λ (k : EdgeList). AreFollowers (slice_set used node true) k new) (sym is) (subst (λ ls. AreFollowers (slice_set used node true) (record g { edges = g.edges ++ (first, node) ∷ [] }) ls) (sym err) (followers_edge node (first, node)))

@@ -1,8 +1,11 @@
 pub mod HopsAlong
 pub mod BadLanes
 pub mod HopChannels
+pub mod LidsInUse
 pub mod RouteSuffixes
+pub mod BehindHops
 pub mod Mapping
+pub mod LevelMarks
 pub mod OneLane
 pub mod NumbersSet
 pub mod Refusals

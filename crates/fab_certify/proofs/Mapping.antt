@@ -1,5 +1,5 @@
 -- The engines' maps are set switch by switch, and level by level.
-use Rattle.std.proofs.Common.{◌≡◌, ◌≢◌, ℕ, ◌+◌, ◌*◌, ◌<◌, ◌≤◌, List, length, replicate, refl, sym, ◌∙◌, ap, subst, inl, inr, arith, Some, None, Option, length-set}
+use Rattle.std.proofs.Common.{◌≡◌, ◌≢◌, ℕ, ◌+◌, ◌*◌, ◌<◌, ◌≤◌, length, replicate, refl, sym, ◌∙◌, ap, inl, inr, arith, Some, None, Option, length-set}
 use Rattle.std.specs.Prelude.{◌==◌, ◌&&◌, nat_lt, if◌then◌else◌, slice_index_or}
 use Rattle.std.proofs.lemmas.Bool.{cases_lt, cases_eq, eq-eqb, ne_eqb, and_from, and_left, and_right, cond-true, cond-false, lt-ltb, le-ltb}
 use Rattle.std.proofs.lemmas.List.{get_or-replicate, get_or_past, length-replicate}
@@ -18,7 +18,7 @@ use Rattle.fab_certify.specs.EnginePlans.{AreEngineLanes}
 use Rattle.fab_certify.specs.Mapping.{lane_so_far, IsMapping}
 
 -- in a list of one element each place has that element
-all_alike : {A : Type 0} (n i : ℕ) (x : A) → slice_index_or (replicate n x) i x ≡ x
+pub all_alike : {A : Type 0} (n i : ℕ) (x : A) → slice_index_or (replicate n x) i x ≡ x
 all_alike n i x = elim (cases_lt i n) [ inl low ↦ get_or-replicate n i x x low | inr past ↦ get_or_past (replicate n x) i x (omega (arith, length-replicate n x)) ]
 
 -- ---- the lane of a level so far
@@ -76,7 +76,7 @@ module _ (t : Topology) (fabric : IsFabric t) (count : ℕ) (few : (0 < count) �
   pub mapping_begins : IsMapping t count first 0 0
   mapping_begins = record {
     fits = record { whole = new_kept count (length t.switches) (length t.channels) (lids_of t) few (lids_are t fabric); switches = refl; channels = refl; in_use = refl; pairs = All-nil (PairFits t) };
-    count = refl;
+    lane_count = refl;
     no_pair = refl;
     no_level = λ s lid. none s (index_of lid (lids_of t));
     no_number = no_number;
@@ -120,7 +120,7 @@ module _ (t : Topology) (count : ℕ) (l : LaneTables) (switch below : ℕ) (so_
       in_use = so_far.fits.in_use;
       pairs = so_far.fits.pairs;
     };
-    count = so_far.count;
+    lane_count = so_far.lane_count;
     no_pair = so_far.no_pair;
     no_level = so_far.no_level;
     no_number = so_far.no_number;
@@ -155,7 +155,7 @@ module _ (t : Topology) (count : ℕ) (l : LaneTables) (switch below : ℕ) (so_
   pub one_more_switch : below ≡ count → IsMapping t count l (switch + 1) 0
   one_more_switch all = record {
     fits = so_far.fits;
-    count = so_far.count;
+    lane_count = so_far.lane_count;
     no_pair = so_far.no_pair;
     no_level = so_far.no_level;
     no_number = so_far.no_number;
@@ -165,7 +165,7 @@ module _ (t : Topology) (count : ℕ) (l : LaneTables) (switch below : ℕ) (so_
 pub all_mapped : (t : Topology) (count : ℕ) (l : LaneTables) (switch : ℕ) → IsMapping t count l switch 0 → switch ≡ length t.switches → AreEngineLanes t count l
 all_mapped t count l switch so_far all = record {
   fits = so_far.fits;
-  lane_count = so_far.count;
+  lane_count = so_far.lane_count;
   maps = record { general = general; no_pair = so_far.no_pair };
   no_level = so_far.no_level;
   no_number = so_far.no_number;
@@ -173,4 +173,4 @@ all_mapped t count l switch so_far all = record {
   where
     general : (s of_level : ℕ) → s < l.switches → of_level < 16 → lane l s of_level ≡ lane_of_level l.count of_level
     general s of_level low few =
-        so_far.general s of_level low few ∙ before_switch count switch 0 s of_level (omega (arith, low, so_far.fits.switches, all)) ∙ ap (λ n. lane_of_level n of_level) (sym so_far.count)
+        so_far.general s of_level low few ∙ before_switch count switch 0 s of_level (omega (arith, low, so_far.fits.switches, all)) ∙ ap (λ n. lane_of_level n of_level) (sym so_far.lane_count)

@@ -1,7 +1,7 @@
 -- A plan has one certificate.
-use Rattle.std.proofs.Common.{◌≡◌, ℕ, ◌*◌, ◌<◌, List, [], ◌∷◌, length, refl, sym, ◌∙◌, ap, subst, inl, inr, ◌⊎◌, arith, Some, None}
-use Rattle.std.specs.Prelude.{slice_get, slice_index, slice_index_or, nat_lt}
-use Rattle.std.proofs.lemmas.Bool.{cases_eq, cases_order, cond-true, lt-ltb}
+use Rattle.std.proofs.Common.{◌≡◌, ℕ, ◌<◌, List, [], ◌∷◌, length, refl, sym, ◌∙◌, ap, subst, inl, inr, ◌⊎◌, arith, Some, None}
+use Rattle.std.specs.Prelude.{slice_get, slice_index}
+use Rattle.std.proofs.lemmas.Bool.{cases_order}
 use Rattle.std.proofs.lemmas.Option.{same_Some, none-some}
 use Rattle.fab_graph.proofs.Graphs
 use Rattle.fab_graph.proofs.Same
@@ -13,12 +13,11 @@ use Rattle.fab_tables.specs.declared.plan.Plan.{Plan}
 use Rattle.fab_tables.specs.declared.verdict.VirtualChannel.{VirtualChannel}
 use Rattle.fab_tables.specs.declared.verdict.Verdict.{Verdict}
 use Rattle.fab_tables.specs.declared.verdict.Verdict.TheVariants.{Routes, Lanes, Unreached, NoLevel, BadLane, NoNumber, NotRising}
-use Rattle.fab_tables.specs.Entries.{Entries, cell}
+use Rattle.fab_tables.specs.Entries.{Entries}
 use Rattle.fab_tables.specs.LaneTables.{LaneTables, level}
 use Rattle.fab_tables.specs.Route.{route}
-use Rattle.fab_tables.specs.VirtualChannels.{virtual_channel, at_level}
+use Rattle.fab_tables.specs.VirtualChannels.{at_level}
 use Rattle.fab_tables.specs.Dependencies.{IsUsed, Depends, DependsByNode, node_of}
-use Rattle.fab_tables.specs.Certified.{number_of}
 use Rattle.fab_tables.specs.First.{IsBefore}
 use Rattle.fab_tables.specs.Verdicts.{IsHop, Leaves, IsLaneFaultAt, IsFaultAt, IsStructural, IsRefusal}
 use Rattle.fab_tables.proofs.RouteFaults.{IsUnreached, unreached}

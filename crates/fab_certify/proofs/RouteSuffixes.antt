@@ -1,10 +1,8 @@
 -- A delivered route goes on, from each of its switches, as the route from there.
-use Rattle.std.proofs.Common.{◌≡◌, ℕ, zero, suc, ◌+◌, ◌-◌, ◌<◌, ◌≤◌, List, [], ◌∷◌, drop, length, refl, sym, ◌∙◌, ap, arith, Some, slice_get}
+use Rattle.std.proofs.Common.{◌≡◌, ℕ, zero, suc, ◌+◌, ◌-◌, ◌<◌, ◌≤◌, ◌∷◌, drop, length, refl, sym, ◌∙◌, ap, arith, Some, slice_get}
 use Rattle.std.proofs.lemmas.Option.{none-some, same_Some}
 use Rattle.fab_model.specs.declared.rows.ChannelRow.{ChannelRow}
-use Rattle.fab_model.specs.declared.rows.SwitchId.{SwitchId}
 use Rattle.fab_model.specs.Topology.{Topology}
-use Rattle.fab_tables.specs.declared.end.End.{End}
 use Rattle.fab_tables.specs.declared.end.End.TheVariants.{Delivered, Loop}
 use Rattle.fab_tables.specs.Entries.{Entries, entry}
 use Rattle.fab_tables.specs.Route.{Route, Hop, hop_by, tip, after_hop, route_within, route}

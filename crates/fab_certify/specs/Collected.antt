@@ -1,25 +1,31 @@
 -- The virtual channels that routes use, and their dependencies, by number, as they are collected route by route.
-use Rattle.std.specs.Prelude.{◌≡◌, ℕ, suc, ◌*◌, ◌<◌, ◌⊎◌, List, length, Bool, true, false, All, Contains, Option, Some, IfSome, slice_get, slice_index_or}
+use Rattle.std.specs.Prelude.{◌≡◌, ℕ, suc, ◌*◌, ◌<◌, ◌⊎◌, List, [], ◌∷◌, length, Bool, true, false, Contains, Option, Some, IfSome, slice_get, slice_index_or}
 use Rattle.fab_model.specs.Topology.{Topology}
 use Rattle.fab_model.specs.declared.rows.TerminalRow.{TerminalRow}
 use Rattle.fab_tables.specs.declared.verdict.VirtualChannel.{VirtualChannel}
 use Rattle.fab_tables.specs.Entries.{Entries}
 use Rattle.fab_tables.specs.LaneTables.{LaneTables}
-use Rattle.fab_tables.specs.VirtualChannels.{virtual_channels}
+use Rattle.fab_tables.specs.Route.{route}
+use Rattle.fab_tables.specs.VirtualChannels.{virtual_channels, on_channels, arrival}
 use Rattle.fab_tables.specs.Dependencies.{IsPath, IsUsed, DependsByNode, node_of}
 use Rattle.fab_tables.specs.declared.starts.Start.{Start}
 use Rattle.fab_tables.specs.Starts.{start_of}
+use Rattle.fab_rings.specs.EdgeList.{EdgeList}
+use Rattle.fab_graph.specs.Walks.{IsEdge}
+use Rattle.fab_certify.specs.LevelMarks.{IsMarkedAt}
 
 pub record Collected : Type 0 where
   pub used : List Bool  -- for each number whether its virtual channel is used
   pub pairs : List (ℕ × ℕ)  -- the dependencies, each once
 
--- both ends of each dependency are numbers
-abbrev pub AreCollected : Collected → Type 0
-AreCollected c = All (λ (x : ℕ × ℕ). (x.0 < length c.used) × (x.1 < length c.used)) c.pairs
-
 abbrev pub IsMarked : Collected → ℕ → Type 0
 IsMarked c n = slice_index_or c.used n false ≡ true
+
+-- a follower that stands in the list of its number is an edge
+pub record AreFollowers (used : List Bool) (g : EdgeList) (followers : List (List ℕ)) : Type 0 where
+  pub nodes : g.nodes ≡ length used
+  pub lists : length followers ≡ length used
+  pub edges : (a b : ℕ) → Contains (slice_index_or followers a []) b → IsEdge g.edges a b
 
 -- nothing is taken back
 pub record Grows (old new : Collected) : Type 0 where
@@ -41,18 +47,36 @@ pub record IsFromRoutes (t : Topology) (e : Entries) (l : LaneTables) (c : Colle
   pub used : (n : ℕ) → IsMarked c n → (v : VirtualChannel) × IsUsed t e l v × (node_of l.count v ≡ n)
   pub pairs : (m n : ℕ) → Contains c.pairs (m, n) → DependsByNode t e l m n
 
--- so many of these hops are collected
-pub record HasHops (count : ℕ) (hops : List VirtualChannel) (passed : ℕ) (c : Collected) : Type 0 where
+-- these hops are collected, and that each depends on the one before
+pub record HasHops (count : ℕ) (hops : List VirtualChannel) (c : Collected) : Type 0 where
+  pub used : (k : ℕ) (v : VirtualChannel) → slice_get hops k ≡ Some v → IsMarked c (node_of count v)
+  pub pairs : (k : ℕ) (v w : VirtualChannel) → slice_get hops k ≡ Some v → slice_get hops (suc k) ≡ Some w → Contains c.pairs (node_of count v, node_of count w)
+
+-- the first so many of them are
+pub record HasFirstHops (count : ℕ) (hops : List VirtualChannel) (passed : ℕ) (c : Collected) : Type 0 where
   pub used : (k : ℕ) (v : VirtualChannel) → k < passed → slice_get hops k ≡ Some v → IsMarked c (node_of count v)
   pub pairs : (k : ℕ) (v w : VirtualChannel) → suc k < passed → slice_get hops k ≡ Some v → slice_get hops (suc k) ≡ Some w → Contains c.pairs (node_of count v, node_of count w)
 
 -- the routes from a start to a LID are collected
 abbrev pub HasRoutes : Topology → Entries → LaneTables → ℕ → Start → Collected → Type 0
-HasRoutes t e l lid start c = (p : TerminalRow) → IsPath t p lid → start_of p ≡ start → HasHops l.count (virtual_channels t e l p lid) (length (virtual_channels t e l p lid)) c
+HasRoutes t e l lid start c = (p : TerminalRow) → IsPath t p lid → start_of p ≡ start → HasHops l.count (virtual_channels t e l p lid) c
 
 -- and those from all terminals
 abbrev pub HasRoutesFor : Topology → Entries → LaneTables → ℕ → Collected → Type 0
-HasRoutesFor t e l lid c = (p : TerminalRow) → IsPath t p lid → HasHops l.count (virtual_channels t e l p lid) (length (virtual_channels t e l p lid)) c
+HasRoutesFor t e l lid c = (p : TerminalRow) → IsPath t p lid → HasHops l.count (virtual_channels t e l p lid) c
+
+-- the hops of a route behind its first channel: the port by which the packets come makes no difference to them
+abbrev pub hops_behind : Topology → LaneTables → ℕ → List ℕ → List VirtualChannel
+hops_behind t l of_level [] = []
+hops_behind t l of_level (c ∷ cs) = on_channels t l of_level (arrival (slice_get t.channels c)) cs
+
+-- behind the first channel of the route from a switch to a LID all is collected, for packets of this level
+abbrev pub HasBehind : Topology → Entries → LaneTables → ℕ → Collected → ℕ → ℕ → Type 0
+HasBehind t e l lid c s of_level = HasHops l.count (hops_behind t l of_level (route t e s lid).channels) c
+
+-- so it is from each switch and at each level that are marked
+abbrev pub AreBehind : Topology → Entries → LaneTables → ℕ → List ℕ → Collected → Type 0
+AreBehind t e l lid marks c = (s of_level : ℕ) → IsMarkedAt marks s of_level → HasBehind t e l lid c s of_level
 
 -- what is collected is what the routes use, and their dependencies
 pub record AreDependencies (t : Topology) (e : Entries) (l : LaneTables) (c : Collected) : Type 0 where

@@ -3,6 +3,7 @@ pub mod Certificate
 pub mod EnginePlans
 pub mod Laws
 pub mod Structural
+pub mod LevelMarks
 pub mod Collected
 pub mod Numbers
 pub mod OneLane

@@ -13,7 +13,7 @@ lane_so_far count switch below s of_level =
 
 pub record IsMapping (t : Topology) (count : ℕ) (l : LaneTables) (switch below : ℕ) : Type 0 where
   pub fits : LanesFit t l
-  pub count : l.count ≡ count
+  pub lane_count : l.count ≡ count
   pub no_pair : l.pairs ≡ []
   pub no_level : (s lid : ℕ) → level l s lid ≡ None
   pub no_number : (v : VirtualChannel) → number_of l v ≡ 0

@@ -1,3 +1,9 @@
+//! Certifying a plan: whether its routes are delivered and free of deadlock, and the numbers that show it.
+//!
+//! A virtual channel depends on another where packets that hold the one wait for the other. By Dally and Seitz no
+//! packets wait in a ring where the dependencies close none. So the plan is refused by its first fault that no
+//! numbers can mend, or by the first ring of its dependencies; else the levels of the dependencies are its
+//! numbers, and they rise along each route.
 ghost use Rattle.std.specs.Prelude.{◌≡◌, IfOk, MatchOption};
 ghost use Rattle.fab_tables.specs.declared.plan.Plan.{Plan as Planned};
 ghost use Rattle.fab_tables.specs.Fit.{EntriesFit, LanesFit, PlanFits, IsTidy};
@@ -30,6 +36,10 @@ pub enum Certified {
 }
 
 /// Numbers a plan. A plan without lanes is taken with one lane and level 0.
+///
+/// For each LID it takes a step for each switch and level, and some for each terminal; and then a step for each
+/// dependency, or a search of all of them for each virtual channel where they close a ring. It takes memory for
+/// each switch and LID, for each channel and lane, and for each dependency.
 pub fn certify(alloc: Global, fabric: &Fabric, plan: &Plan) -> Result<Certified, AllocError>
     requires { PlanFits fabric.now plan.now }
     ensures answer { IfOk result (λ answer. IsCertificate fabric.now plan.now answer) }
@@ -108,8 +118,8 @@ fn numbered(
     ensures { IfOk result (IsCertificateBy fabric.now tables lanes) }
 {
     let dependencies = collect(alloc, fabric, &tables, &lanes, components, starts)?;
-    let graph = dependencies.graph(alloc, fabric.channels() * u32::from(lanes.count()))?;
-    match levels(alloc, &graph)? {
+    let graph = dependencies.graph();
+    match levels(alloc, graph)? {
         Some(levels) => {
             set_numbers(&mut lanes, fabric.channels(), &dependencies, &levels);
             Ok(Certified::Numbers(Plan {
@@ -117,6 +127,6 @@ fn numbered(
                 lanes: Some(lanes),
             }))
         }
-        None => Ok(Certified::RingUsed(first_ring(alloc, &graph)?.unwrap())),
+        None => Ok(Certified::RingUsed(first_ring(alloc, graph)?.unwrap())),
     }
 }

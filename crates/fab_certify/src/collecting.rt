@@ -1,20 +1,28 @@
-// The dependencies of a plan are collected route by route.
-ghost use Rattle.std.specs.Prelude.{◌≡◌, ◌+◌, ◌*◌, ◌<◌, ◌^◌, IfOk, OnOk};
+//! The dependencies of a plan, collected route by route.
+//!
+//! The dependencies are those of Dally and Seitz, over the virtual channels of a route: packets that hold one
+//! wait for the next. What packets to a LID hold behind a switch depends on the switch and on their level
+//! alone, since a switch has one entry for a LID, and the port by which they come to the next switch is that of
+//! the channel. So the route from each switch at each level is gone along once for a LID, and by each start one
+//! hop more: the lane of a start's first hop depends on the terminal's port.
+ghost use Rattle.std.specs.Prelude.{◌≡◌, ◌+◌, ◌*◌, ◌<◌, ◌^◌, length, IfOk, OnOk};
 ghost use Rattle.fab_model.specs.Connected.{IsConnectedTo};
 ghost use Rattle.fab_tables.specs.Fit.{EntriesFit, LanesFit};
 ghost use Rattle.fab_tables.specs.Dependencies.{node_of as number_by_lane};
 ghost use Rattle.fab_tables.specs.Reaching.{IsToward};
 ghost use Rattle.fab_tables.specs.Starts.{StartsAt, AreStarts, IsOfTerminal};
 ghost use Rattle.fab_certify.specs.Numbered.{IsSound};
-ghost use Rattle.fab_certify.specs.Collected.{Grows, IsFromRoutes, HasRoutes, HasRoutesFor, AreDependencies};
+ghost use Rattle.fab_certify.specs.Collected.{Grows, IsFromRoutes, HasRoutes, HasRoutesFor, AreBehind, AreDependencies};
 
 use crate::dependencies::Dependencies;
+use crate::level_marks::LevelMarks;
 use fab_model::{Fabric, Lid};
-use fab_tables::{Components, Lanes, Start, Tables, VirtualChannel, follow};
+use fab_tables::{Components, Lanes, Start, Tables, VirtualChannel, hops};
 use std::alloc::{AllocError, Global};
 
 /// Collects the virtual channels that the routes of a plan use, and their dependencies. Their numbers are
-/// those by (channel, lane).
+/// those by (channel, lane). For each LID it takes a step for each switch and level, and some for each start;
+/// memory for each channel and lane, and for each dependency.
 pub(crate) fn collect(
     alloc: Global,
     fabric: &Fabric,
@@ -32,23 +40,23 @@ pub(crate) fn collect(
 {
     let nodes = fabric.channels() * u32::from(lanes.count());
     let mut dependencies = Dependencies::new(alloc, nodes)?;
-    for index in 0..fabric.lids() {
-        if let Some(lid) = fabric.lid_at(index) {
-            collect_for(
-                fabric,
-                tables,
-                lanes,
-                lid,
-                components,
-                starts,
-                &mut dependencies,
-            )?;
-        }
+    let mut marks = LevelMarks::new(alloc, fabric.switches())?;
+    for lid in fabric.lids_in_use() {
+        collect_for(
+            fabric,
+            tables,
+            lanes,
+            *lid,
+            components,
+            starts,
+            &mut marks,
+            &mut dependencies,
+        )?;
     }
     Ok(dependencies)
 }
 
-/// Collects the routes to a LID.
+/// Collects the routes to a LID. The marks are room for it.
 fn collect_for(
     fabric: &Fabric,
     tables: &Tables,
@@ -56,6 +64,7 @@ fn collect_for(
     lid: Lid,
     components: &Components,
     starts: &[Start],
+    marks: &mut LevelMarks,
     dependencies: &mut Dependencies,
 ) -> Result<(), AllocError>
     requires toward { IsToward fabric.now tables.now lid.0 }
@@ -63,7 +72,9 @@ fn collect_for(
     requires components { components.now ≡ fabric.now }
     requires starts { AreStarts fabric.now starts.now }
     requires sound { IsSound fabric.now tables.now lanes.now }
+    requires room { length marks.old ≡ length fabric.now.switches }
     requires before { IsFromRoutes fabric.now tables.now lanes.now dependencies.old }
+    ensures room { OnOk result (length marks.new ≡ length fabric.now.switches) }
     ensures from_routes { OnOk result (IsFromRoutes fabric.now tables.now lanes.now dependencies.new) }
     ensures grows { OnOk result (Grows dependencies.old dependencies.new) }
     ensures has { OnOk result (HasRoutesFor fabric.now tables.now lanes.now lid.0 dependencies.new) }
@@ -71,11 +82,12 @@ fn collect_for(
     let Some(place) = fabric.place_of(lid) else {
         return Ok(());
     };
+    marks.clear();
     // without maps of pairs all starts of a source are alike
     let mut alike = None;
     for start in starts {
         if alike != Some(start.switch) && components.are_connected(start.switch, place.switch) {
-            collect_from(fabric, tables, lanes, lid, *start, dependencies)?;
+            collect_from(fabric, tables, lanes, lid, *start, marks, dependencies)?;
             if lanes.pairs() == 0 {
                 alike = Some(start.switch);
             }
@@ -91,6 +103,7 @@ fn collect_from(
     lanes: &Lanes,
     lid: Lid,
     start: Start,
+    marks: &mut LevelMarks,
     dependencies: &mut Dependencies,
 ) -> Result<(), AllocError>
     requires toward { IsToward fabric.now tables.now lid.0 }
@@ -98,18 +111,32 @@ fn collect_from(
     requires terminal { IsOfTerminal fabric.now start }
     requires connected { IsConnectedTo fabric.now start.switch.0 lid.0 }
     requires sound { IsSound fabric.now tables.now lanes.now }
+    requires room { length marks.old ≡ length fabric.now.switches }
     requires before { IsFromRoutes fabric.now tables.now lanes.now dependencies.old }
+    requires behind { AreBehind fabric.now tables.now lanes.now lid.0 marks.old dependencies.old }
+    ensures room { OnOk result (length marks.new ≡ length fabric.now.switches) }
     ensures from_routes { OnOk result (IsFromRoutes fabric.now tables.now lanes.now dependencies.new) }
     ensures grows { OnOk result (Grows dependencies.old dependencies.new) }
+    ensures behind { OnOk result (AreBehind fabric.now tables.now lanes.now lid.0 marks.new dependencies.new) }
     ensures has { OnOk result (HasRoutes fabric.now tables.now lanes.now lid.0 start dependencies.new) }
 {
     match lanes.level(start.switch, lid) {
-        Some(level) => collect_hops(fabric, tables, lanes, lid, start, level, dependencies),
+        Some(level) => collect_hops(
+            fabric,
+            tables,
+            lanes,
+            lid,
+            start,
+            level,
+            marks,
+            dependencies,
+        ),
         None => Ok(()),
     }
 }
 
-/// Collects the hops from a start to a LID, for packets of this level.
+/// Collects the hops from a start to a LID, for packets of this level. A switch and a level are marked once all
+/// is collected behind the channel by which the packets leave the switch: from there one hop is left to do.
 fn collect_hops(
     fabric: &Fabric,
     tables: &Tables,
@@ -117,25 +144,31 @@ fn collect_hops(
     lid: Lid,
     start: Start,
     level: u8,
+    marks: &mut LevelMarks,
     dependencies: &mut Dependencies,
 ) -> Result<(), AllocError>
     requires starts { StartsAt fabric.now tables.now lanes.now lid.0 start level }
     requires sound { IsSound fabric.now tables.now lanes.now }
+    requires room { length marks.old ≡ length fabric.now.switches }
     requires before { IsFromRoutes fabric.now tables.now lanes.now dependencies.old }
+    requires behind { AreBehind fabric.now tables.now lanes.now lid.0 marks.old dependencies.old }
+    ensures room { OnOk result (length marks.new ≡ length fabric.now.switches) }
     ensures from_routes { OnOk result (IsFromRoutes fabric.now tables.now lanes.now dependencies.new) }
     ensures grows { OnOk result (Grows dependencies.old dependencies.new) }
+    ensures behind { OnOk result (AreBehind fabric.now tables.now lanes.now lid.0 marks.new dependencies.new) }
     ensures has { OnOk result (HasRoutes fabric.now tables.now lanes.now lid.0 start dependencies.new) }
 {
     let count = lanes.count();
-    let mut from_port = start.port;
     let mut before = None;
-    for channel in follow(fabric, tables, start.switch, lid) {
-        let row = fabric.channel(channel);
-        let lane = lanes.lane_at(row.tail, from_port, row.port, level);
-        let node = node_of(count, VirtualChannel { channel, lane });
+    let mut known = false;
+    for hop in hops(fabric, tables, lanes, start, lid, level) {
+        let node = node_of(count, hop);
         dependencies.add(before, node)?;
+        if known {
+            return Ok(());
+        }
+        known = marks.mark(fabric.channel(hop.channel).tail, level);
         before = Some(node);
-        from_port = row.tip_port;
     }
     Ok(())
 }

@@ -1,4 +1,5 @@
-//! The numbers that certify a plan.
+//! The numbers that certify a plan: packets that hold one virtual channel and wait for the next never wait in a
+//! ring where the numbers rise along every route (Dally and Seitz).
 #![tactic(auto)]
 
 mod certified;
@@ -8,6 +9,7 @@ mod hops;
 mod lane_per_level;
 mod lanes;
 mod laws;
+mod level_marks;
 mod numbers;
 mod one_lane;
 

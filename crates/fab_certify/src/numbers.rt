@@ -1,4 +1,7 @@
-// The numbers of a certificate.
+//! The numbers of a certificate: each virtual channel that is used has its level as number, so that the numbers
+//! rise along every route. Dally and Seitz number channels so to show that none waits for itself.
+//!
+//! It takes a step for each channel and lane, and no memory.
 ghost use Rattle.std.specs.Prelude.{◌≡◌, ◌*◌, ◌<◌, ◌^◌, length};
 ghost use Rattle.fab_tables.specs.Dependencies.{node_of as number_by_lane};
 ghost use Rattle.fab_tables.specs.LaneTables.{AreLaneTables};

@@ -1,4 +1,5 @@
-// The lanes with which a plan without lanes is read.
+//! The lanes with which a plan without lanes is read: one lane, on which every packet goes, as engines write it
+//! that need no more. It takes a step for each LID and each start, and memory for each switch and LID.
 ghost use Rattle.std.specs.Prelude.{◌≡◌, IfOk, Contains};
 ghost use Rattle.fab_model.specs.WellFormed.{IsFabric};
 ghost use Rattle.fab_model.specs.Topology.{lids_of};
@@ -23,10 +24,8 @@ pub(crate) fn one_lane(
     ensures { IfOk result (IsOneLane fabric.now) }
 {
     let mut lanes = engine_lanes(alloc, fabric, 1)?;
-    for index in 0..fabric.lids() {
-        if let Some(lid) = fabric.lid_at(index) {
-            set_levels(fabric, lid, components, starts, &mut lanes);
-        }
+    for lid in fabric.lids_in_use() {
+        set_levels(fabric, *lid, components, starts, &mut lanes);
     }
     Ok(lanes)
 }

@@ -1,6 +1,6 @@
 use Rattle.std.proofs.Common.{◌≡◌, ℕ, ◌<◌, List, length, Some, slice_get, slice_index_or, sym, ◌∙◌, ap, subst, arith}
 use Rattle.std.proofs.lemmas.Bool.{eqb-true, both_ways}
-use Rattle.std.proofs.lemmas.List.{nil_from_length}
+use Rattle.std.proofs.lemmas.List.{nil_from_length, length-replicate}
 use Rattle.std.proofs.lemmas.Option.{slice_get-get_or}
 use Rattle.std.proofs.lemmas.List.Elements.{All-contains}
 use Rattle.fab_model.specs.Topology.{Topology, place_of}
@@ -11,7 +11,8 @@ use Rattle.fab_tables.specs.declared.starts.Start.{Start}
 use Rattle.fab_tables.specs.Starts.{IsOfTerminal, AreStarts}
 use Rattle.fab_tables.proofs.RouteFaults.{apart_by}
 use Rattle.fab_tables.proofs.StartFaults.{same_option}
-use Rattle.fab_certify.proofs.CollectingStarts.{routes_apart, collected_more, collected_alike, collected_same, has_again, has_all}
+use Rattle.fab_certify.proofs.CollectingStarts.{none_collected, routes_apart, collected_more, collected_alike, collected_same, has_again, has_all}
+use Rattle.fab_certify.proofs.LevelMarks.{none_behind}
 use Rattle.fab_certify.proofs.collecting.collect_for.Goals as goal
 use Rattle.fab_certify.proofs.collecting.collect_for.Goals.{then-ne+then-are_connected+in_ok-collect_from+then-pairs-eq0, then-ne+then-are_connected+in_ok-collect_from+else-pairs-eq0, else-ne, else-ne-via-then-ne+else-are_connected, else-ne-via-else-ne}
 
@@ -35,6 +36,18 @@ are_connected-requires-clause-second c =
     let at : place_of c.args.fabric.now c.args.lid.0 ≡ Some c.in-Some.place = sym c.place_of.ensures ∙ c.in-Some.is in
     omega (arith, ap (λ (t : Topology). length t.switches) c.requires.components, place_below c.args.fabric.now c.requires.toward.fabric.rows c.args.lid.0 c.in-Some.place at)
 
+pub loop-start-init : goal.loop-start-init
+loop-start-init c =
+    let t = c.args.fabric.now in
+    let l = c.args.lanes.now in
+    let lid = c.args.lid.0 in
+    let d = c.args.dependencies.now in
+    rw c.clear.ensures (
+      length-replicate (length c.args.marks.now) 0 ∙ c.requires.room,
+      none_behind t c.args.tables.now l lid (length c.args.marks.now) d,
+      none_collected t c.args.tables.now l lid c.args.starts.now d c.requires.before,
+    )
+
 pub loop-start-preserved : goal.loop-start-preserved
 loop-start-preserved c =
     let t = c.args.fabric.now in
@@ -46,29 +59,37 @@ loop-start-preserved c =
     let start = start_at starts k in
     let old = c.args.dependencies.now in
     let now_at = c.loop-start.dependencies in
-    let so_far = c.loop-start.invariant in
+    let so_far = c.loop-start.invariant.2 in
     let at : slice_get starts k ≡ Some start = slice_get-get_or starts k (record { switch = record { 0 = 0 }; port = 0 }) c.loop-start-test.true in
     let home : place_of t lid ≡ Some c.in-Some.place = sym c.place_of.ensures ∙ c.in-Some.is in
     elim c.if-ne.branch [
       | then-ne+then-are_connected+in_ok-collect_from+then-pairs-eq0 w ↦
           (let told = w.in_ok-collect_from.ensures in
-          rw (w.dependencies-is, w.alike-is) (collected_alike t e l lid starts c.requires.starts k start at old now_at c.loop-start.alike so_far w.collect_from.new.dependencies told.from_routes told.grows told.has
-          (nil_from_length l.pairs (sym w.pairs.ensures ∙ w.if-pairs-eq0.true))))
+          rw (w.dependencies-is, w.alike-is, w.marks-is) (
+            told.room,
+            told.behind,
+            collected_alike t e l lid starts c.requires.starts k start at old now_at c.loop-start.alike so_far w.collect_from.new.dependencies told.from_routes told.grows told.has
+                (nil_from_length l.pairs (sym w.pairs.ensures ∙ w.if-pairs-eq0.true)),
+          ))
       | then-ne+then-are_connected+in_ok-collect_from+else-pairs-eq0 w ↦
           (let told = w.in_ok-collect_from.ensures in
-          rw (w.dependencies-is, w.alike-is) (collected_more t e l lid starts c.requires.starts k start at old now_at c.loop-start.alike so_far w.collect_from.new.dependencies told.from_routes told.grows told.has))
-      | else-ne w ↦ rw (w.dependencies-is, w.alike-is) (collected_same t e l lid starts c.requires.starts k start at old now_at c.loop-start.alike so_far (elim w.else-ne.branch [
-        | else-ne-via-then-ne+else-are_connected v ↦
-            routes_apart t e l lid start now_at (apart_by t lid c.in-Some.place start.switch.0 home (λ joined.
-            both_ways v.are_connected.result v.if-are_connected.false
-            (v.are_connected.ensures.1 (subst (λ x. AreConnected x start.switch.0 c.in-Some.place.switch.0) (sym c.requires.components) joined))))
-        | else-ne-via-else-ne v ↦
-            has_again t e l lid starts c.requires.starts k start at old now_at c.loop-start.alike so_far
-            (same_option _ (λ x y same. ap (λ n. record { 0 = n }) (eqb-true x.0 y.0 same)) c.loop-start.alike start.switch c.ne.result c.ne.ensures v.if-ne.false)
-      ]))
+          rw (w.dependencies-is, w.alike-is, w.marks-is) (told.room, told.behind, collected_more t e l lid starts c.requires.starts k start at old now_at c.loop-start.alike so_far w.collect_from.new.dependencies told.from_routes told.grows told.has))
+      | else-ne w ↦ rw (w.dependencies-is, w.alike-is, w.marks-is) (
+        c.loop-start.invariant.0,
+        c.loop-start.invariant.1,
+        collected_same t e l lid starts c.requires.starts k start at old now_at c.loop-start.alike so_far (elim w.else-ne.branch [
+          | else-ne-via-then-ne+else-are_connected v ↦
+              routes_apart t e l lid start now_at (apart_by t lid c.in-Some.place start.switch.0 home (λ joined.
+              both_ways v.are_connected.result v.if-are_connected.false
+              (v.are_connected.ensures.1 (subst (λ x. AreConnected x start.switch.0 c.in-Some.place.switch.0) (sym c.requires.components) joined))))
+          | else-ne-via-else-ne v ↦
+              has_again t e l lid starts c.requires.starts k start at old now_at c.loop-start.alike so_far
+              (same_option _ (λ x y same. ap (λ n. record { 0 = n }) (eqb-true x.0 y.0 same)) c.loop-start.alike start.switch c.ne.result c.ne.ensures v.if-ne.false)
+        ]),
+      )
     ]
 
 pub returns-clause-has : goal.returns-clause-has
 returns-clause-has c =
     has_all c.args.fabric.now c.args.tables.now c.args.lanes.now c.args.lid.0 c.args.starts.now c.requires.starts c.args.dependencies.now c.loop-start.dependencies c.loop-start.start-index c.loop-start.alike
-    c.loop-start.invariant c.loop-start-test.false
+    c.loop-start.invariant.2 c.loop-start-test.false

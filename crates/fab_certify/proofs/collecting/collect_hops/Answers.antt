@@ -1,106 +1,92 @@
-use Rattle.std.proofs.Common.{◌≡◌, suc, ◌<◌, ◌∙◌, length, sym, ap, subst, Some, None, slice_get}
-use Rattle.fab_tables.specs.declared.verdict.VirtualChannel.{VirtualChannel}
-use Rattle.fab_tables.specs.Ahead.{Ahead}
-use Rattle.fab_tables.specs.Route.{route}
+use Rattle.std.proofs.Common.{◌≡◌, suc, ◌<◌, ◌∙◌, length, sym, ap, subst, Some}
+use Rattle.fab_tables.specs.HopsAhead.{HopsAhead}
 use Rattle.fab_tables.specs.Dependencies.{node_of}
 use Rattle.fab_tables.proofs.LevelsLow.{level_low}
-use Rattle.fab_tables.proofs.Ways.{channel_low}
 use Rattle.fab_certify.specs.Collected.{AddsHop}
-use Rattle.fab_certify.proofs.HopsAlong.{hops_from, starts_along, none_passed, tail_low, next_hop, goes_along, one_more_passed, all_passed}
-use Rattle.fab_certify.proofs.CollectingHops.{IsCollecting, begins, node_low, node_fits, lane_low, collects_hop, has_routes}
+use Rattle.fab_certify.proofs.CollectingHops.{IsCollecting, hops_from, begins, start_low, channel_low, tail_low, small_node, node_below, next_hop, hop_marked, known_routes, known_behind, known_from_routes, known_grows, has_routes, are_behind}
 use Rattle.fab_certify.proofs.collecting.collect_hops.Goals as goal
 
-pub loop-channel-init : goal.loop-channel-init
-loop-channel-init c =
-    let t = c.args.fabric.now in
-    let e = c.args.tables.now in
-    let l = c.args.lanes.now in
-    let d = c.args.dependencies.now in
-    let ahead = c.into_iter-channel-iterator.result in
-    let hops = hops_from t e l c.args.lid c.args.start c.args.level in
-    let channels : ahead.channels ≡ (route t e c.args.start.switch.0 c.args.lid.0).channels = ap (λ (a : Ahead). a.channels) c.into_iter-channel-iterator.ensures.into_iter_gives ∙ c.follow-channel-items.ensures.channels in
-    let ends : ahead.end ≡ (route t e c.args.start.switch.0 c.args.lid.0).end = ap (λ (a : Ahead). a.end) c.into_iter-channel-iterator.ensures.into_iter_gives ∙ c.follow-channel-items.ensures.end in (
+pub hops-hop-items-requires-clause-switch : goal.hops-hop-items-requires-clause-switch
+hops-hop-items-requires-clause-switch c = start_low c.args.fabric.now c.args.tables.now c.args.lanes.now c.args.lid c.args.start c.args.level c.requires.starts c.requires.sound
+
+pub hops-hop-items-requires-clause-level : goal.hops-hop-items-requires-clause-level
+hops-hop-items-requires-clause-level c = level_low c.args.lanes.now c.args.start.switch.0 c.args.lid.0 c.args.level c.requires.starts.lanes.whole c.requires.starts.has_level
+
+pub loop-hop-init : goal.loop-hop-init
+loop-hop-init c =
+    let ahead = c.into_iter-hop-iterator.result in
+    let hops : ahead.hops ≡ hops_from c.args.fabric.now c.args.tables.now c.args.lanes.now c.args.lid c.args.start c.args.level = ap (λ (a : HopsAhead). a.hops) c.into_iter-hop-iterator.ensures.into_iter_gives ∙ c.hops-hop-items.ensures in (
       tt,
       tt,
-      (
-        starts_along t e l c.args.lid c.args.start c.args.level ahead channels ends,
-        subst (λ n. IsCollecting t e l hops d d n None) (sym (none_passed t e l c.args.lid c.args.start c.args.level ahead channels ends)) (begins t e l hops d c.requires.before),
-      ),
+      begins c.args.fabric.now c.args.tables.now c.args.lanes.now c.args.lid c.args.start c.args.level ahead.hops c.args.dependencies.now c.args.marks.now hops c.requires.room c.requires.before c.requires.behind,
     )
-
-pub channel-row-requires : goal.channel-row-requires
-channel-row-requires c =
-    channel_low c.args.fabric.now c.args.tables.now c.args.lid.0 c.requires.starts.toward c.args.start.switch.0 c.loop-channel.channel-iterator c.next.new.self c.in-Some.channel c.loop-channel.invariant.2.0.way c.in-Some.ensures.steps
-
-pub lane_at-lane-requires-clause-switch : goal.lane_at-lane-requires-clause-switch
-lane_at-lane-requires-clause-switch c =
-    tail_low c.args.fabric.now c.args.tables.now c.args.lanes.now c.args.lid c.args.start c.args.level c.requires.starts c.loop-channel.channel-iterator c.next.new.self c.loop-channel.from_port
-    c.in-Some.channel c.channel-row.result c.loop-channel.invariant.2.0 c.in-Some.ensures.steps c.channel-row.ensures
-
-pub lane_at-lane-requires-clause-level : goal.lane_at-lane-requires-clause-level
-lane_at-lane-requires-clause-level c = level_low c.args.lanes.now c.args.start.switch.0 c.args.lid.0 c.args.level c.requires.starts.lanes.whole c.requires.starts.has_level
 
 pub node_of-node-requires : goal.node_of-node-requires
 node_of-node-requires c =
-    let t = c.args.fabric.now in
-    let e = c.args.tables.now in
-    let l = c.args.lanes.now in
-    let along = c.loop-channel.invariant.2.0 in
-    let hop : VirtualChannel = record { channel = c.in-Some.channel; lane = c.lane_at-lane.result } in
-    let at : slice_get (hops_from t e l c.args.lid c.args.start c.args.level) along.way.passed ≡ Some hop =
-    next_hop t e l c.args.lid c.args.start c.args.level c.requires.starts c.loop-channel.channel-iterator c.next.new.self c.loop-channel.from_port c.in-Some.channel c.channel-row.result along c.in-Some.ensures.steps c.channel-row.ensures c.lane_at-lane.result c.lane_at-lane.ensures in
-    let low : c.lane_at-lane.result < l.count = lane_low t e l c.args.lid c.args.start c.args.level c.requires.starts c.requires.sound along.way.passed hop at in
-    let channel : c.in-Some.channel.0 < length t.channels = channel_low t e c.args.lid.0 c.requires.starts.toward c.args.start.switch.0 c.loop-channel.channel-iterator c.next.new.self c.in-Some.channel along.way c.in-Some.ensures.steps in
-    rw c.count-count.ensures (node_fits t c.requires.starts.toward.fabric l.count c.in-Some.channel.0 c.lane_at-lane.result c.requires.starts.lanes.whole.count.1 channel low)
+    let on = c.loop-hop.invariant.2 in
+    let next = next_hop c.args.fabric.now c.args.tables.now c.args.lanes.now c.args.lid c.args.start c.args.level c.requires.starts c.requires.sound c.loop-hop.hop-iterator.hops c.next.new.self.hops on.passed c.in-Some.hop on.ahead c.in-Some.ensures.steps in
+    rw c.count-count.ensures (small_node c.args.fabric.now c.args.tables.now c.args.lanes.now c.args.lid c.args.start c.args.level c.requires.starts c.requires.sound on.passed c.in-Some.hop next.0)
 
 pub add-requires-clause-node : goal.add-requires-clause-node
 add-requires-clause-node c =
-    let t = c.args.fabric.now in
-    let e = c.args.tables.now in
-    let l = c.args.lanes.now in
-    let along = c.loop-channel.invariant.2.0 in
-    let hop : VirtualChannel = record { channel = c.in-Some.channel; lane = c.lane_at-lane.result } in
-    let at : slice_get (hops_from t e l c.args.lid c.args.start c.args.level) along.way.passed ≡ Some hop =
-    next_hop t e l c.args.lid c.args.start c.args.level c.requires.starts c.loop-channel.channel-iterator c.next.new.self c.loop-channel.from_port c.in-Some.channel c.channel-row.result along c.in-Some.ensures.steps c.channel-row.ensures c.lane_at-lane.result c.lane_at-lane.ensures in
-    let low : c.lane_at-lane.result < l.count = lane_low t e l c.args.lid c.args.start c.args.level c.requires.starts c.requires.sound along.way.passed hop at in
-    let channel : c.in-Some.channel.0 < length t.channels = channel_low t e c.args.lid.0 c.requires.starts.toward c.args.start.switch.0 c.loop-channel.channel-iterator c.next.new.self c.in-Some.channel along.way c.in-Some.ensures.steps in
-    rw (c.node_of-node.ensures, c.count-count.ensures, c.loop-channel.invariant.2.1.from_routes.each) (node_low (length t.channels) l.count c.in-Some.channel.0 c.lane_at-lane.result channel low)
+    let on = c.loop-hop.invariant.2 in
+    let next = next_hop c.args.fabric.now c.args.tables.now c.args.lanes.now c.args.lid c.args.start c.args.level c.requires.starts c.requires.sound c.loop-hop.hop-iterator.hops c.next.new.self.hops on.passed c.in-Some.hop on.ahead c.in-Some.ensures.steps in
+    let node : c.node_of-node.result ≡ node_of c.args.lanes.now.count c.in-Some.hop = c.node_of-node.ensures ∙ ap (λ n. node_of n c.in-Some.hop) c.count-count.ensures in
+    subst (λ n. n < length c.loop-hop.dependencies.used) (sym node) (node_below c.args.fabric.now c.args.tables.now c.args.lanes.now c.args.lid c.args.start c.args.level c.requires.starts c.requires.sound c.loop-hop.dependencies on.passed c.in-Some.hop on.so_far.from_routes next.0)
 
 pub add-requires-clause-before : goal.add-requires-clause-before
-add-requires-clause-before c = c.loop-channel.invariant.2.1.before_low
+add-requires-clause-before c = c.loop-hop.invariant.2.so_far.before_low
 
-pub loop-channel-preserved : goal.loop-channel-preserved
-loop-channel-preserved c =
-    let t = c.args.fabric.now in
-    let e = c.args.tables.now in
-    let l = c.args.lanes.now in
-    let along = c.loop-channel.invariant.2.0 in
-    let so_far = c.loop-channel.invariant.2.1 in
-    let old = c.loop-channel.channel-iterator in
-    let new = c.next.new.self in
-    let hop : VirtualChannel = record { channel = c.in-Some.channel; lane = c.lane_at-lane.result } in
-    let steps = c.in-Some.ensures.steps in
-    let at : slice_get (hops_from t e l c.args.lid c.args.start c.args.level) along.way.passed ≡ Some hop =
-    next_hop t e l c.args.lid c.args.start c.args.level c.requires.starts old new c.loop-channel.from_port c.in-Some.channel c.channel-row.result along steps c.channel-row.ensures c.lane_at-lane.result c.lane_at-lane.ensures in
-    let low : c.lane_at-lane.result < l.count = lane_low t e l c.args.lid c.args.start c.args.level c.requires.starts c.requires.sound along.way.passed hop at in
-    let channel : c.in-Some.channel.0 < length t.channels = channel_low t e c.args.lid.0 c.requires.starts.toward c.args.start.switch.0 old new c.in-Some.channel along.way steps in
-    let node : c.node_of-node.result ≡ node_of l.count hop = c.node_of-node.ensures ∙ ap (λ n. node_of n hop) c.count-count.ensures in
-    let adds : AddsHop c.loop-channel.before (node_of l.count hop) c.loop-channel.dependencies c.add.new.self = subst (λ n. AddsHop c.loop-channel.before n c.loop-channel.dependencies c.add.new.self) node c.in_ok-add.ensures in
-    let node_below : node_of l.count hop < length c.loop-channel.dependencies.used = rw so_far.from_routes.each (node_low (length t.channels) l.count c.in-Some.channel.0 c.lane_at-lane.result channel low) in
-    let next : IsCollecting t e l (hops_from t e l c.args.lid c.args.start c.args.level) c.args.dependencies.now c.add.new.self (suc along.way.passed) (Some (node_of l.count hop)) =
-    collects_hop t e l c.args.lid c.args.start c.args.level c.requires.starts c.args.dependencies.now c.loop-channel.dependencies c.add.new.self along.way.passed c.loop-channel.before hop so_far at adds node_below in (
+pub channel-requires : goal.channel-requires
+channel-requires c =
+    let on = c.loop-hop.invariant.2 in
+    let next = next_hop c.args.fabric.now c.args.tables.now c.args.lanes.now c.args.lid c.args.start c.args.level c.requires.starts c.requires.sound c.loop-hop.hop-iterator.hops c.next.new.self.hops on.passed c.in-Some.hop on.ahead c.in-Some.ensures.steps in
+    channel_low c.args.fabric.now c.args.tables.now c.args.lanes.now c.args.lid c.args.start c.args.level c.requires.starts c.requires.sound on.passed c.in-Some.hop next.0
+
+pub mark-known-requires-clause-switch : goal.mark-known-requires-clause-switch
+mark-known-requires-clause-switch c = rw c.loop-hop.invariant.2.so_far.marks_each (tail_low c.args.fabric.now c.args.tables.now c.args.lanes.now c.args.lid c.args.start c.args.level c.requires.starts c.requires.sound c.in-Some.hop c.channel.result c.channel.ensures)
+
+pub mark-known-requires-clause-level : goal.mark-known-requires-clause-level
+mark-known-requires-clause-level c = level_low c.args.lanes.now c.args.start.switch.0 c.args.lid.0 c.args.level c.requires.starts.lanes.whole c.requires.starts.has_level
+
+pub loop-hop-preserved : goal.loop-hop-preserved
+loop-hop-preserved c =
+    let on = c.loop-hop.invariant.2 in
+    let next = next_hop c.args.fabric.now c.args.tables.now c.args.lanes.now c.args.lid c.args.start c.args.level c.requires.starts c.requires.sound c.loop-hop.hop-iterator.hops c.next.new.self.hops on.passed c.in-Some.hop on.ahead c.in-Some.ensures.steps in
+    let node : c.node_of-node.result ≡ node_of c.args.lanes.now.count c.in-Some.hop = c.node_of-node.ensures ∙ ap (λ n. node_of n c.in-Some.hop) c.count-count.ensures in
+    let adds : AddsHop c.loop-hop.before (node_of c.args.lanes.now.count c.in-Some.hop) c.loop-hop.dependencies c.add.new.self = subst (λ n. AddsHop c.loop-hop.before n c.loop-hop.dependencies c.add.new.self) node c.in_ok-add.ensures in
+    let marked : IsCollecting c.args.fabric.now c.args.tables.now c.args.lanes.now c.args.lid c.args.start c.args.level c.args.dependencies.now c.add.new.self c.mark-known.new.self (suc on.passed) (Some (node_of c.args.lanes.now.count c.in-Some.hop)) c.mark-known.result =
+    hop_marked c.args.fabric.now c.args.tables.now c.args.lanes.now c.args.lid c.args.start c.args.level c.requires.starts c.requires.sound c.args.dependencies.now c.loop-hop.dependencies c.add.new.self c.loop-hop.marks on.passed c.loop-hop.before c.loop-hop.known c.in-Some.hop on.so_far next.0 adds c.channel.result c.channel.ensures c.mark-known.new.self c.mark-known.result c.mark-known.ensures.before c.mark-known.ensures.marks in (
       tt,
       tt,
-      (
-        goes_along t e l c.args.lid c.args.start c.args.level c.requires.starts old new c.loop-channel.from_port c.in-Some.channel c.channel-row.result along steps c.channel-row.ensures c.lane_at-lane.result c.lane_at-lane.ensures,
-        subst (λ n. IsCollecting t e l (hops_from t e l c.args.lid c.args.start c.args.level) c.args.dependencies.now c.add.new.self n (Some c.node_of-node.result))
-            (sym (one_more_passed t e l c.args.lid c.args.start c.args.level c.requires.starts old new c.loop-channel.from_port c.in-Some.channel c.channel-row.result along steps c.channel-row.ensures c.lane_at-lane.result c.lane_at-lane.ensures))
-            (subst (λ n. IsCollecting t e l (hops_from t e l c.args.lid c.args.start c.args.level) c.args.dependencies.now c.add.new.self (suc along.way.passed) (Some n)) (sym node) next),
-      ),
+      record {
+        passed = suc on.passed;
+        ahead = next.1;
+        so_far = subst (λ n. IsCollecting c.args.fabric.now c.args.tables.now c.args.lanes.now c.args.lid c.args.start c.args.level c.args.dependencies.now c.add.new.self c.mark-known.new.self (suc on.passed) (Some n) c.mark-known.result) (sym node) marked;
+      },
     )
 
-pub returns-clause-has : goal.returns-clause-has
-returns-clause-has c =
-    has_routes c.args.fabric.now c.args.tables.now c.args.lanes.now c.args.lid c.args.start c.args.level c.requires.starts c.args.dependencies.now c.loop-channel.dependencies c.loop-channel.invariant.2.0.way.passed c.loop-channel.before
-    c.loop-channel.invariant.2.1
-    (all_passed c.args.fabric.now c.args.tables.now c.args.lanes.now c.args.lid c.args.start c.args.level c.requires.starts c.loop-channel.channel-iterator c.loop-channel.from_port c.loop-channel.invariant.2.0 c.in-None.ensures.steps.0)
+pub returns-then-known : goal.returns-then-known
+returns-then-known c =
+    let on = c.loop-hop.invariant.2 in
+    let next = next_hop c.args.fabric.now c.args.tables.now c.args.lanes.now c.args.lid c.args.start c.args.level c.requires.starts c.requires.sound c.loop-hop.hop-iterator.hops c.next.new.self.hops on.passed c.in-Some.hop on.ahead c.in-Some.ensures.steps in
+    let node : c.node_of-node.result ≡ node_of c.args.lanes.now.count c.in-Some.hop = c.node_of-node.ensures ∙ ap (λ n. node_of n c.in-Some.hop) c.count-count.ensures in
+    let adds : AddsHop c.loop-hop.before (node_of c.args.lanes.now.count c.in-Some.hop) c.loop-hop.dependencies c.add.new.self = subst (λ n. AddsHop c.loop-hop.before n c.loop-hop.dependencies c.add.new.self) node c.in_ok-add.ensures in
+    record {
+      room = c.loop-hop.invariant.2.so_far.marks_each;
+      from_routes = known_from_routes c.args.fabric.now c.args.tables.now c.args.lanes.now c.args.lid c.args.start c.args.level c.requires.starts c.requires.sound c.args.dependencies.now c.loop-hop.dependencies c.add.new.self c.loop-hop.marks on.passed c.loop-hop.before c.loop-hop.known c.in-Some.hop on.so_far next.0 adds;
+      grows = known_grows c.args.fabric.now c.args.tables.now c.args.lanes.now c.args.lid c.args.start c.args.level c.requires.starts c.requires.sound c.args.dependencies.now c.loop-hop.dependencies c.add.new.self c.loop-hop.marks on.passed c.loop-hop.before c.loop-hop.known c.in-Some.hop on.so_far next.0 adds;
+      behind = known_behind c.args.fabric.now c.args.tables.now c.args.lanes.now c.args.lid c.args.start c.args.level c.requires.starts c.requires.sound c.args.dependencies.now c.loop-hop.dependencies c.add.new.self c.loop-hop.marks on.passed c.loop-hop.before c.loop-hop.known c.in-Some.hop on.so_far next.0 adds c.if-known.true;
+      has = known_routes c.args.fabric.now c.args.tables.now c.args.lanes.now c.args.lid c.args.start c.args.level c.requires.starts c.requires.sound c.args.dependencies.now c.loop-hop.dependencies c.add.new.self c.loop-hop.marks on.passed c.loop-hop.before c.loop-hop.known c.in-Some.hop on.so_far next.0 adds c.if-known.true;
+    }
+
+pub returns : goal.returns
+returns c =
+    let on = c.loop-hop.invariant.2 in
+    record {
+      room = on.so_far.marks_each;
+      from_routes = on.so_far.from_routes;
+      grows = on.so_far.grows;
+      behind = are_behind c.args.fabric.now c.args.tables.now c.args.lanes.now c.args.lid c.args.start c.args.level c.requires.starts c.requires.sound c.args.dependencies.now c.loop-hop.dependencies c.loop-hop.marks c.loop-hop.before c.loop-hop.known c.loop-hop.hop-iterator.hops on c.in-None.ensures.steps.0;
+      has = has_routes c.args.fabric.now c.args.tables.now c.args.lanes.now c.args.lid c.args.start c.args.level c.requires.starts c.requires.sound c.args.dependencies.now c.loop-hop.dependencies c.loop-hop.marks c.loop-hop.before c.loop-hop.known c.loop-hop.hop-iterator.hops on c.in-None.ensures.steps.0;
+    }

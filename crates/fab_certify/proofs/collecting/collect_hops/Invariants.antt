@@ -1,10 +1,8 @@
 -- The hops so far are collected.
-use Rattle.fab_certify.proofs.HopsAlong.{IsAlong, hops_from}
-use Rattle.fab_certify.proofs.CollectingHops.{IsCollecting}
+use Rattle.fab_certify.proofs.CollectingHops.{IsCollectingOn}
 use Rattle.fab_certify.proofs.collecting.collect_hops.Given as goal
 
-abbrev pub invariant-loop-channel : goal.invariant-loop-channel
-invariant-loop-channel l =
-    (goal.iterator-loop-channel).can_next l.channel-iterator × (goal.iterator-loop-channel).is_finite l.channel-iterator
-    × ((along : IsAlong l.fabric l.tables l.lanes l.fn.lid l.fn.start l.level l.channel-iterator l.from_port)
-    × IsCollecting l.fabric l.tables l.lanes (hops_from l.fabric l.tables l.lanes l.fn.lid l.fn.start l.level) l.initial.dependencies l.dependencies along.way.passed l.before)
+abbrev pub invariant-loop-hop : goal.invariant-loop-hop
+invariant-loop-hop l =
+    (goal.iterator-loop-hop).can_next l.hop-iterator × (goal.iterator-loop-hop).is_finite l.hop-iterator
+    × IsCollectingOn l.fabric l.tables l.lanes l.fn.lid l.fn.start l.level l.hop-iterator.hops l.initial.dependencies l.dependencies l.marks l.before l.known

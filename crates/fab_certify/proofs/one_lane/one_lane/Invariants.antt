@@ -4,5 +4,5 @@ use Rattle.fab_model.specs.Topology.{lids_of}
 use Rattle.fab_certify.specs.OneLane.{IsLeveling, HasLevelsFor}
 use Rattle.fab_certify.proofs.one_lane.one_lane.Given as goal
 
-abbrev pub invariant-loop-index : goal.invariant-loop-index
-invariant-loop-index l = IsLeveling l.fabric l.lanes × ((k lid : ℕ) → k < l.index → slice_get (lids_of l.fabric) k ≡ Some lid → HasLevelsFor l.fabric l.lanes lid)
+abbrev pub invariant-loop-lid : goal.invariant-loop-lid
+invariant-loop-lid l = IsLeveling l.fabric l.lanes × ((k lid : ℕ) → k < l.lid-index → slice_get (lids_of l.fabric) k ≡ Some lid → HasLevelsFor l.fabric l.lanes lid)
