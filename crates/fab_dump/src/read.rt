@@ -2,6 +2,7 @@ ghost use Rattle.std.specs.Prelude.{◌≡◌, ◌+◌, ◌≤◌, ◌<◌, leng
 ghost use Rattle.std.specs.Str.Lines.{lines};
 ghost use Rattle.fab_text.specs.Fronts.{line_at};
 ghost use Rattle.fab_text.specs.Readings.{Gives};
+ghost use Rattle.fab_model.specs.Topology.{Topology};
 ghost use Rattle.fab_model.specs.WellFormed.{IsFabric};
 ghost use Rattle.fab_tables.specs.Fit.{PlanFits, IsTidy};
 ghost use Rattle.fab_dump.specs.Lines.{Form, State};
@@ -25,17 +26,18 @@ const PLAN_MARK: &[u8] = b"fabroute plan ";
 /// What the second line of a plan begins with.
 const LANES_MARK: &[u8] = b"lanes ";
 
-/// The fabrics that version 1 is read for have at most so many switches and LIDs.
-const SWITCHES_OF_ONE: u32 = 512;
+/// Version 1 is read for fabrics of at most so many switches.
+const VERSION_1_SWITCHES: u32 = 512;
 
-const LIDS_OF_ONE: u32 = 4096;
+/// And of at most so many LIDs in use.
+const VERSION_1_LIDS: u32 = 4096;
 
 /// The version that the first line of a plan names, where it is read for the fabric.
 fn version_in(fabric: &Fabric, line: &[u8]) -> Option<Version>
     ensures { result ≡ version_read fabric.now (version_named line.now) }
 {
     match dec_up_to(3, only_field(behind(PLAN_MARK, line))?)? {
-        1 if fabric.switches() <= SWITCHES_OF_ONE && fabric.lids() <= LIDS_OF_ONE => {
+        1 if fabric.switches() <= VERSION_1_SWITCHES && fabric.lids() <= VERSION_1_LIDS => {
             Some(Version::One)
         }
         2 => Some(Version::Two),
@@ -65,7 +67,6 @@ fn count_in(line: &[u8]) -> Option<Option<u8>>
 /// Reads the lines of a text from a place on, which are numbered behind `line`.
 fn read_lines(
     mut reader: PlanReader,
-    fabric: &Fabric,
     text: &[u8],
     mut from: usize,
     mut line: u32,
@@ -73,13 +74,13 @@ fn read_lines(
     requires text { length text.now ≤ 536870912 }
     requires from { from ≤ length text.now }
     requires line { line ≤ from }
-    requires read { (f : Form) × (s : State) × Stands fabric.now f s reader × IsOrderly fabric.now f s }
-    ensures exact { (f : Form) (s : State) → Stands fabric.now f s reader → IsOrderly fabric.now f s → Gives wants_memory result (read_lines fabric.now f (line + 1) s (lines (drop from text.now))) }
-    ensures kept { IfOk result (λ _. IsFabric fabric.now) }
+    requires read { (t : Topology) × (f : Form) × (s : State) × Stands t f s reader × IsOrderly t f s }
+    ensures exact { (t : Topology) (f : Form) (s : State) → Stands t f s reader.entry → IsOrderly t f s → Gives wants_memory result (read_lines t f (line + 1) s (lines (drop from text.now))) }
+    ensures kept { IfOk result (λ _. IsFabric reader.entry.fabric.now) }
 {
     while let Some(found) = next_line(text, from) {
         line += 1;
-        match reader.line(fabric, line, &text[found.start..found.end]) {
+        match reader.line(line, &text[found.start..found.end]) {
             Ok(Step::Goes) => from = found.next,
             Ok(Step::Ends) => return Ok(reader.into_plan()),
             Err(why) => return Err(why),
@@ -109,7 +110,7 @@ fn read_body(alloc: Global, fabric: &Fabric, text: &[u8], first: Line) -> Result
         return Err(PlanFault::BadRow { line: 2 });
     };
     match PlanReader::new(alloc, fabric, version, count) {
-        Ok(reader) => read_lines(reader, fabric, text, second.next, 2),
+        Ok(reader) => read_lines(reader, text, second.next, 2),
         Err(fault) => Err(PlanFault::Memory(fault)),
     }
 }
@@ -133,7 +134,7 @@ pub fn read_plan(alloc: Global, fabric: &Fabric, text: &[u8]) -> Result<Plan, Pl
             read_body(alloc, fabric, text, first)
         }
         _ => match PlanReader::new(alloc, fabric, Version::Dump, None) {
-            Ok(reader) => read_lines(reader, fabric, text, 0, 0),
+            Ok(reader) => read_lines(reader, text, 0, 0),
             Err(fault) => Err(PlanFault::Memory(fault)),
         },
     }
