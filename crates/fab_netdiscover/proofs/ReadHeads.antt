@@ -1,11 +1,10 @@
 -- Written heads, read again.
-use Rattle.std.proofs.Common.{◌≡◌, ◌≢◌, ◌<◌, ◌≤◌, ◌+◌, ◌-◌, ◌^◌, ℕ, zero, suc, Bool, true, false, cond, ◌&&◌, ◌||◌, not, List, [], ◌∷◌, ◌++◌, length, drop, take, refl, sym, subst, ap, ◌∙◌, arith, codes}
-use Rattle.std.specs.Prelude.{Ok, Result, decimal, ◌==◌}
-use Rattle.std.specs.List.{concat, prefix_len, list_any, list_all}
-use Rattle.std.specs.Char.{is_digit}
+use Rattle.std.proofs.Common.{◌≡◌, ◌<◌, ◌≤◌, ◌+◌, ◌^◌, ℕ, Bool, false, cond, List, [], ◌∷◌, ◌++◌, length, drop, refl, ap, ◌∙◌, arith, codes}
+use Rattle.std.specs.Prelude.{Ok, decimal}
+use Rattle.std.specs.List.{concat, prefix_len, list_any}
 use Rattle.std.proofs.lemmas.Bool.{or_from}
 use Rattle.std.proofs.lemmas.List.Elements.{All-head, All-tail}
-use Rattle.std.proofs.lemmas.List.{append_assoc, append-nil}
+use Rattle.std.proofs.lemmas.List.{append_assoc}
 use Rattle.std.proofs.lemmas.List.Folds.{list_any-append}
 use Rattle.fab_text.specs.Bytes.{is_blank, is_quote}
 use Rattle.fab_text.proofs.Spelled.{Spells, IsHigh, decimal_spells, spelled_high}
@@ -15,12 +14,10 @@ use Rattle.fab_model.specs.declared.raw.NodeKind.TheVariants.{Switch, Adapter}
 use Rattle.fab_model.specs.declared.raw.RawNode.{RawNode}
 use Rattle.fab_model.specs.declared.rows.SwitchRow.{SwitchRow}
 use Rattle.fab_model.specs.declared.rows.AdapterRow.{AdapterRow}
-use Rattle.fab_netdiscover.specs.declared.fault.LineFault.{LineFault}
 use Rattle.fab_netdiscover.specs.declared.fault.BadKind.TheVariants as kinds
-use Rattle.fab_netdiscover.specs.declared.lines.NodeFront.{NodeFront}
 use Rattle.fab_netdiscover.specs.Fronts.{past_blanks}
-use Rattle.fab_netdiscover.specs.Lines.{LineKind, SwitchHead, AdapterHead, line_kind, node_front, switch_head, adapter_head}
-use Rattle.fab_netdiscover.specs.Writing.{name_text, in_quotes, address_text, word_of, head_text, switch_head_text, adapter_head_text}
+use Rattle.fab_netdiscover.specs.Lines.{node_front, switch_head, adapter_head}
+use Rattle.fab_netdiscover.specs.Writing.{name_text, in_quotes, address_text}
 use Rattle.fab_netdiscover.proofs.ReadNumbers.{number_read}
 use Rattle.fab_netdiscover.proofs.ReadParts.{own_name_read}
 use Rattle.fab_netdiscover.proofs.ReadTails.{description_read, switch_address}

@@ -1,22 +1,18 @@
 -- Descriptions, LIDs and LMCs of written lines, read again.
-use Rattle.std.proofs.Common.{◌≡◌, ◌≢◌, ◌<◌, ◌≤◌, ◌+◌, ◌-◌, ◌^◌, ℕ, zero, suc, Bool, true, false, cond, ◌&&◌, ◌||◌, not, List, [], ◌∷◌, ◌++◌, length, drop, take, filter, refl, sym, subst, ap, ◌∙◌, arith, codes}
-use Rattle.std.specs.Prelude.{Ok, Err, Some, None, decimal, nat_lt, nat_eq, ◌==◌, All, position, ok_or}
-use Rattle.std.specs.List.{list_any, list_all, before_last, after_last, slice_split, position_or_len}
-use Rattle.std.specs.Char.{is_digit, digit_value}
-use Rattle.std.specs.Str.{bytes_eq}
+use Rattle.std.proofs.Common.{◌≡◌, ◌<◌, ◌≤◌, ◌+◌, ◌^◌, ℕ, suc, Bool, true, false, cond, not, List, [], ◌∷◌, ◌++◌, length, drop, take, refl, sym, ap, ◌∙◌, arith, codes}
+use Rattle.std.specs.Prelude.{Ok, Err, Some, None, decimal, nat_lt, nat_eq, ◌==◌, position}
+use Rattle.std.specs.List.{list_any, before_last, after_last}
 use Rattle.std.proofs.lemmas.Bool.{or_parts, or_right}
 use Rattle.std.proofs.lemmas.List.{append_assoc, append-nil, length-append, take_all}
-use Rattle.std.proofs.lemmas.List.Elements.{All-nil, All-cons}
-use Rattle.fab_text.specs.Bytes.{is_quote, is_blank}
+use Rattle.fab_text.specs.Bytes.{is_quote}
 use Rattle.fab_text.specs.Fields.{words_of}
-use Rattle.fab_text.specs.Readings.{◌>>=◌}
 use Rattle.fab_text.proofs.Spelled.{Spells, decimal_spells, spelled_high}
 use Rattle.fab_text.proofs.Words.{high_word, words_more}
 use Rattle.fab_netdiscover.specs.declared.fault.LineFault.TheVariants.{Bad}
 use Rattle.fab_netdiscover.specs.declared.fault.BadKind.TheVariants as kinds
 use Rattle.fab_netdiscover.specs.declared.words.Address.{Address}
-use Rattle.fab_netdiscover.specs.Fronts.{Read, number_at, to_last_quote, description_at, words_after, whole_number, first_number, address_in, address_behind_mark}
-use Rattle.fab_netdiscover.specs.Writing.{in_quotes, address_text, described}
+use Rattle.fab_netdiscover.specs.Fronts.{Read, number_at, to_last_quote, description_at, whole_number, address_in, address_behind_mark}
+use Rattle.fab_netdiscover.specs.Writing.{in_quotes, address_text}
 use Rattle.fab_netdiscover.proofs.Quotes.{behind, behind-cons}
 use Rattle.fab_netdiscover.proofs.ReadNumbers.{number_read}
 

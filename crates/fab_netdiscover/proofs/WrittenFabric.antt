@@ -1,6 +1,6 @@
 -- The text of a fabric is read as its rows written out.
-use Rattle.std.proofs.Common.{◌≡◌, ◌≢◌, ◌<◌, ◌≤◌, ◌+◌, ◌-◌, ◌*◌, ◌^◌, ℕ, zero, suc, Bool, true, false, cond, ◌&&◌, List, [], ◌∷◌, ◌++◌, Option, Some, None, length, get_or, map, refl, sym, subst, ap, ◌∙◌, arith, codes}
-use Rattle.std.specs.Prelude.{Ok, Result, decimal, slice_get, filter_map, find, option_map, unwrap_or, ◌==◌, nat_lt, All, AllPairs, Contains}
+use Rattle.std.proofs.Common.{◌≡◌, ◌≢◌, ◌<◌, ◌≤◌, ◌+◌, ◌^◌, ℕ, suc, Bool, true, false, cond, List, [], ◌∷◌, ◌++◌, Option, Some, None, length, get_or, map, refl, sym, subst, ap, ◌∙◌, arith}
+use Rattle.std.specs.Prelude.{Ok, slice_get, find, option_map, unwrap_or, ◌==◌, nat_lt, All, Contains}
 use Rattle.std.specs.List.{flat_map, enumerate_from, position_or_len}
 use Rattle.std.specs.Option.{option_or}
 use Rattle.std.specs.Str.Lines.{lines}
@@ -10,25 +10,22 @@ use Rattle.std.proofs.lemmas.List.Elements.{All-contains}
 use Rattle.std.proofs.lemmas.List.Folds.{find_at}
 use Rattle.std.proofs.lemmas.Option.{slice_get_within, get_or_from_slice_get}
 use Rattle.fab_model.specs.declared.raw.NodeKind.TheVariants.{Switch, Adapter}
-use Rattle.fab_model.specs.declared.raw.RawLink.{RawLink}
 use Rattle.fab_model.specs.declared.rows.SwitchRow.{SwitchRow}
 use Rattle.fab_model.specs.declared.rows.AdapterRow.{AdapterRow}
 use Rattle.fab_model.specs.declared.rows.ChannelRow.{ChannelRow}
 use Rattle.fab_model.specs.declared.rows.TerminalRow.{TerminalRow}
 use Rattle.fab_model.specs.Description.{HasNoLineFeed, IsDescription}
-use Rattle.fab_model.specs.Records.{Records}
 use Rattle.fab_model.specs.Topology.{Topology, guid_of, ports_of, leaves_by, is_cabled_at, reversed}
 use Rattle.fab_model.specs.WellFormed.{IsFabric, IsPort, IsUnicast, adapter_ports_of}
-use Rattle.fab_model.specs.Written.{Block, adapter_guid_of, is_on_adapter, port_numbers, channel_link, terminal_link, switch_link, adapter_link, switch_block, adapter_block, blocks, laid_out, records_of}
+use Rattle.fab_model.specs.Written.{Block, adapter_guid_of, is_on_adapter, port_numbers, switch_link, adapter_link, switch_block, adapter_block, blocks, laid_out, records_of}
 use Rattle.fab_model.proofs.MakesItself.{makes_itself}
-use Rattle.fab_netdiscover.specs.declared.fault.ReadFault.{ReadFault}
 use Rattle.fab_netdiscover.specs.Reading.{no_records, lines_read, records_in}
 use Rattle.fab_netdiscover.specs.Writing.{desc_of_switch, lid_of_switch, desc_of_adapter, switch_head_text, adapter_head_text, channel_text, terminal_text, adapter_port_text, switch_port_text, adapter_port_line, switch_text, adapter_text, text_of}
 use Rattle.fab_netdiscover.specs.Laws.{HasNoOwnCable, IsTextOf, WrittenIsRead, WrittenIsBuilt}
 use Rattle.fab_netdiscover.proofs.Rows.{holds, tip_is_switch}
 use Rattle.fab_netdiscover.proofs.NumberedRows.{Row, some_row}
-use Rattle.fab_netdiscover.proofs.WrittenPorts.{LinkText, Fit, far_link, near_link, channel_line, terminal_line, adapter_line}
-use Rattle.fab_netdiscover.proofs.WrittenBlocks.{RowFits, switch_line, adapter_head_line, ReadsAs, BlockText, AllRead, blocks_read}
+use Rattle.fab_netdiscover.proofs.WrittenPorts.{LinkText, far_link, near_link, channel_line, terminal_line, adapter_line}
+use Rattle.fab_netdiscover.proofs.WrittenBlocks.{switch_line, adapter_head_line, ReadsAs, BlockText, AllRead, blocks_read}
 
 -- ---- what is read off rows
 

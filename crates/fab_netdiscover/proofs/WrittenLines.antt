@@ -1,12 +1,11 @@
 -- Lines that are written: no line feed stands in them, and no carriage return at their end.
-use Rattle.std.proofs.Common.{◌≡◌, ◌≢◌, ◌<◌, ◌≤◌, ◌+◌, ◌-◌, ◌^◌, ℕ, zero, suc, Bool, true, false, cond, ◌&&◌, not, List, [], ◌∷◌, ◌++◌, length, get_or, drop, take, refl, sym, subst, ap, ◌∙◌, arith, codes}
-use Rattle.std.specs.Prelude.{decimal, nat_lt, ◌==◌, All, slice_index}
+use Rattle.std.proofs.Common.{◌≡◌, ◌≢◌, ◌<◌, ◌≤◌, ◌+◌, ◌-◌, ◌^◌, ℕ, suc, Bool, true, false, cond, not, List, [], ◌∷◌, ◌++◌, length, get_or, take, refl, sym, ap, ◌∙◌, arith, codes}
+use Rattle.std.specs.Prelude.{decimal, ◌==◌, slice_index}
 use Rattle.std.specs.List.{concat, list_all, slice_split, onto_first}
-use Rattle.std.specs.Char.{is_digit}
 use Rattle.std.specs.Fmt.{radix_digits}
 use Rattle.std.specs.Str.Lines.{lines, lines_of_parts, strip_carriage_return}
 use Rattle.std.proofs.lemmas.Bool.{and_parts}
-use Rattle.std.proofs.lemmas.List.{append_assoc, append-nil, length-append}
+use Rattle.std.proofs.lemmas.List.{length-append}
 use Rattle.std.proofs.lemmas.List.Elements.{All-nil, All-cons, All-append, All-weaker, All-get_or}
 use Rattle.std.proofs.lemmas.List.Splits.{slice_split_at}
 use Rattle.fab_text.specs.Bytes.{is_line_feed}

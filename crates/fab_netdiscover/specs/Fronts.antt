@@ -1,6 +1,6 @@
 -- What stands at the front of a line's bytes, and the bytes after it; or what is wrong there.
-use Rattle.std.specs.Prelude.{ℕ, ◌+◌, ◌^◌, Bool, true, false, ◌&&◌, not, List, [], ◌∷◌, length, take, drop, filter, Result, Ok, Err, nat_eq, nat_lt, ◌==◌, slice_index, codes, position, ok_or, if◌then◌else◌}
-use Rattle.std.specs.List.{starts_with, prefix_len, slice_split, list_any, before_last, after_last}
+use Rattle.std.specs.Prelude.{ℕ, ◌+◌, ◌^◌, Bool, true, false, ◌&&◌, not, List, [], ◌∷◌, length, take, drop, Result, Ok, Err, nat_eq, nat_lt, ◌==◌, slice_index, codes, position, ok_or, if◌then◌else◌}
+use Rattle.std.specs.List.{starts_with, prefix_len, list_any, before_last, after_last}
 use Rattle.std.specs.Str.{byte, bytes_eq}
 use Rattle.fab_text.specs.Bytes.{is_blank, is_quote}
 use Rattle.fab_text.specs.Fields.{words_of}
