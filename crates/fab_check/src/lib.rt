@@ -100,7 +100,8 @@ impl<'f> Checker<'f> {
                     &self.components,
                     &self.starts,
                     &mut self.judged,
-                ).unwrap_or(Verdict::Lanes)
+                )
+                .unwrap_or(Verdict::Lanes)
             }
         }
     }

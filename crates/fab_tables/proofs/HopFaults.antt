@@ -23,9 +23,8 @@ use Rattle.fab_tables.specs.declared.starts.Start.{Start}
 use Rattle.fab_tables.specs.First.{IsBefore, IsFirst, FindsFirst, Beneath}
 use Rattle.fab_tables.specs.Starts.{StartsAt}
 use Rattle.fab_tables.specs.LaneFaults.{IsSoughtAt, SeeksNumbers}
-use Rattle.fab_tables.specs.HopFaults.{fault_after, fault_of_number, fault_sought, fault_of_hop}
+use Rattle.fab_tables.specs.HopFaults.{fault_after, fault_sought, fault_of_hop}
 use Rattle.fab_tables.specs.Judged.{IsRight, before_at, IsRightAt, AreRight, hops_from}
-use Rattle.fab_tables.proofs.StartFaults.{IsLaneChoice}
 use Rattle.fab_tables.proofs.SoughtFaults.{sought_faults, bad_sought, number_sought, seeks_none, seeks_falling}
 use Rattle.fab_tables.proofs.Firsts.{none_beneath, first_beneath}
 

@@ -1,6 +1,6 @@
 -- A walk over the hops of a route that judges each.
-use Rattle.std.proofs.Common.{◌≡◌, ℕ, suc, ◌<◌, ◌≤◌, List, [], ◌∷◌, length, drop, refl, sym, ◌∙◌, ap, subst, inl, inr, ◌⊎◌, arith, Some, None, Option, slice_get, Bool, true, false}
-use Rattle.std.specs.Prelude.{IfSome, IsSome, is_some}
+use Rattle.std.proofs.Common.{◌≡◌, ℕ, suc, ◌<◌, List, [], ◌∷◌, length, drop, refl, sym, ◌∙◌, ap, subst, inl, inr, arith, Some, None, Option, slice_get, Bool, true, false}
+use Rattle.std.specs.Prelude.{IfSome, IsSome}
 use Rattle.std.proofs.lemmas.Bool.{cases_order, cases_lt}
 use Rattle.std.proofs.lemmas.Option.{same_Some, slice_get_within}
 use Rattle.std.proofs.lemmas.List.{length-drop}
@@ -12,22 +12,21 @@ use Rattle.fab_tables.specs.declared.verdict.Verdict.{Verdict}
 use Rattle.fab_tables.specs.declared.lane_faults.LaneFaults.{LaneFaults}
 use Rattle.fab_tables.specs.declared.end.End.TheVariants.{Delivered}
 use Rattle.fab_tables.specs.declared.starts.Start.{Start}
-use Rattle.fab_tables.specs.Entries.{Entries, cell}
+use Rattle.fab_tables.specs.Entries.{Entries}
 use Rattle.fab_tables.specs.LaneTables.{LaneTables}
 use Rattle.fab_tables.specs.Route.{route}
 use Rattle.fab_tables.specs.VirtualChannels.{on_channels}
 use Rattle.fab_tables.specs.HopsAhead.{HopsAhead, TakesHop}
-use Rattle.fab_tables.specs.Verdicts.{Leaves}
 use Rattle.fab_tables.specs.First.{FindsFirst, Beneath}
 use Rattle.fab_tables.specs.Starts.{StartsAt}
 use Rattle.fab_tables.specs.LaneFaults.{IsSoughtAt}
 use Rattle.fab_tables.specs.HopFaults.{fault_of_hop}
-use Rattle.fab_tables.specs.Judged.{IsRight, before_at, IsRightAt, AreRight, hops_from, hops_behind, AreJudged}
+use Rattle.fab_tables.specs.Judged.{IsRight, before_at, IsRightAt, AreRight, hops_from, hops_behind}
 use Rattle.fab_tables.proofs.Routes.{channel_there}
 use Rattle.fab_tables.proofs.RoutesBehind.{behind_tail, hops_dropped, channel_of_hop}
 use Rattle.fab_tables.proofs.Ways.{drop_step}
 use Rattle.fab_tables.proofs.HopsTaken.{leaves_low}
-use Rattle.fab_tables.proofs.HopFaults.{right_of, right_clear, hop_first}
+use Rattle.fab_tables.proofs.HopFaults.{right_of, hop_first}
 use Rattle.fab_tables.proofs.Judged.{right_later}
 
 module _ (faults : LaneFaults) (t : Topology) (e : Entries) (l : LaneTables) (lid : Lid) (start : Start) (of_level : ℕ) where

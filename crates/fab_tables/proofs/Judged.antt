@@ -1,6 +1,6 @@
 -- Hops that are right, and marks of the switches behind which they are.
-use Rattle.std.proofs.Common.{◌≡◌, ℕ, zero, suc, ◌+◌, ◌-◌, ◌<◌, List, length, drop, replicate, refl, sym, ◌∙◌, ap, subst, inl, inr, ◌⊎◌, arith, Some, None, Option, slice_get, Bool, true, false, get_or-set_other}
-use Rattle.std.specs.Prelude.{slice_index_or, slice_set, IfSome}
+use Rattle.std.proofs.Common.{◌≡◌, ℕ, zero, suc, ◌+◌, ◌-◌, ◌<◌, List, length, drop, replicate, sym, ◌∙◌, ap, subst, inl, inr, arith, Some, None, Option, slice_get, Bool, true, false, get_or-set_other}
+use Rattle.std.specs.Prelude.{slice_index_or, slice_set}
 use Rattle.std.proofs.lemmas.Bool.{cases_eq, cases_lt, false≢true}
 use Rattle.std.proofs.lemmas.List.{length-set, get_or-replicate, get_or_past, length-replicate}
 use Rattle.fab_model.specs.Topology.{Topology}
@@ -11,8 +11,6 @@ use Rattle.fab_tables.specs.Entries.{Entries, cell}
 use Rattle.fab_tables.specs.LaneTables.{LaneTables}
 use Rattle.fab_tables.specs.Route.{route, tip}
 use Rattle.fab_tables.specs.VirtualChannels.{on_channels}
-use Rattle.fab_tables.specs.Certified.{number_of}
-use Rattle.fab_tables.specs.LaneFaults.{SeeksNumbers}
 use Rattle.fab_tables.specs.Judged.{IsRight, before_at, IsRightAt, AreRight, hops_from, hops_behind, IsRoomFor, AreJudged, KeepsJudged}
 use Rattle.fab_tables.proofs.RoutesBehind.{slice_dropped, dropped_on, behind_tip, hops_dropped, behind_any}
 

@@ -5,7 +5,7 @@ use Rattle.fab_model.specs.declared.rows.SwitchId.{SwitchId}
 use Rattle.fab_model.specs.Topology.{Topology}
 use Rattle.fab_tables.specs.declared.verdict.VirtualChannel.{VirtualChannel}
 use Rattle.fab_tables.specs.declared.verdict.Verdict.{Verdict}
-use Rattle.fab_tables.specs.declared.verdict.Verdict.TheVariants.{NoLevel, BadLane, NoNumber, NotRising}
+use Rattle.fab_tables.specs.declared.verdict.Verdict.TheVariants.{BadLane, NoNumber, NotRising}
 use Rattle.fab_tables.specs.declared.lane_faults.LaneFaults.{LaneFaults}
 use Rattle.fab_tables.specs.declared.lane_faults.LaneFaults.TheVariants.{Every, Structural}
 use Rattle.fab_tables.specs.Entries.{Entries}

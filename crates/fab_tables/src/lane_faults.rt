@@ -58,8 +58,9 @@ pub fn first_lane_fault(
 {
     let starts = starts.standing(lanes);
     for lid in fabric.lids_in_use() {
-        let fault =
-            fault_for(fabric, tables, lanes, faults, *lid, components, starts, marks);
+        let fault = fault_for(
+            fabric, tables, lanes, faults, *lid, components, starts, marks,
+        );
         if fault.is_some() {
             return fault;
         }

@@ -1,4 +1,4 @@
-use Rattle.std.proofs.Common.{◌≡◌, ◌<◌, sym, ◌∙◌, ap, arith}
+use Rattle.std.proofs.Common.{sym, ◌∙◌, ap, arith}
 use Rattle.fab_tables.specs.HopsAhead.{HopsAhead}
 use Rattle.fab_tables.proofs.LevelsLow.{level_low}
 use Rattle.fab_tables.proofs.StartFaults.{none_found}

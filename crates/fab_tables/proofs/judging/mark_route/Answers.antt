@@ -1,4 +1,4 @@
-use Rattle.std.proofs.Common.{sym, ◌∙◌, ap, arith}
+use Rattle.std.proofs.Common.{◌∙◌, ap, arith}
 use Rattle.fab_tables.specs.Ahead.{Ahead}
 use Rattle.fab_tables.proofs.Ways.{stepped, goes_on, channel_low, to_tip, tip_low}
 use Rattle.fab_tables.proofs.Judged.{room_more, keeps_first, keeps_more}

@@ -8,7 +8,7 @@ use Rattle.fab_tables.specs.LaneFaults.{IsSoughtAt}
 use Rattle.fab_tables.specs.Judged.{AreJudged}
 use Rattle.fab_tables.proofs.FallingRoutes.{place_below}
 use Rattle.fab_tables.proofs.RouteFaults.{apart_by}
-use Rattle.fab_tables.proofs.StartFaults.{IsLaneChoice, IsClear, AreClear, none_found, none_is, start_at, start_low, clear_apart, one_clear_more, found_clear, none_from_starts, found_first}
+use Rattle.fab_tables.proofs.StartFaults.{IsLaneChoice, IsClear, none_found, none_is, start_at, start_low, clear_apart, one_clear_more, found_clear, none_from_starts, found_first}
 use Rattle.fab_tables.proofs.SoughtFaults.{sought_faults}
 use Rattle.fab_tables.proofs.Judged.{cleared}
 use Rattle.fab_tables.proofs.lane_faults.fault_for.Goals as goal

@@ -1,7 +1,6 @@
-use Rattle.std.proofs.Common.{◌≡◌, ℕ, ◌+◌, List, ◌∷◌, [], Some, slice_get, sym, ◌∙◌, arith}
-use Rattle.fab_model.specs.declared.rows.Lid.{Lid}
+use Rattle.std.proofs.Common.{sym, ◌∙◌, arith}
 use Rattle.fab_model.specs.Topology.{lids_of}
-use Rattle.fab_model.proofs.LidsInUse.{as_many, lid_there, contains_lid}
+use Rattle.fab_model.proofs.LidsInUse.{as_many, lid_there}
 use Rattle.fab_tables.proofs.StartFaults.{none_found, none_by_lid, first_by_lid, one_lid_clear}
 use Rattle.fab_tables.proofs.SoughtFaults.{sought_faults}
 use Rattle.fab_tables.proofs.lane_faults.first_lane_fault.Goals as goal
