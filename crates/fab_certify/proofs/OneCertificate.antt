@@ -1,13 +1,9 @@
 -- A plan has one certificate.
-use Rattle.std.proofs.Common.{◌≡◌, ℕ, ◌<◌, List, [], ◌∷◌, length, refl, sym, ◌∙◌, ap, subst, inl, inr, ◌⊎◌, arith, Some, None}
-use Rattle.std.specs.Prelude.{slice_get, slice_index}
-use Rattle.std.proofs.lemmas.Bool.{cases_order}
-use Rattle.std.proofs.lemmas.Option.{same_Some, none-some}
+use Rattle.std.proofs.Common.{◌≡◌, ℕ, List, refl, sym, ◌∙◌, ap, subst, Some}
+use Rattle.std.specs.Prelude.{slice_get}
+use Rattle.std.proofs.lemmas.Option.{same_Some}
 use Rattle.fab_graph.proofs.Graphs
 use Rattle.fab_graph.proofs.Same
-use Rattle.fab_model.specs.declared.rows.SwitchId.{SwitchId}
-use Rattle.fab_model.specs.declared.rows.Lid.{Lid}
-use Rattle.fab_model.specs.declared.rows.ChannelRow.{ChannelRow}
 use Rattle.fab_model.specs.Topology.{Topology}
 use Rattle.fab_tables.specs.declared.plan.Plan.{Plan}
 use Rattle.fab_tables.specs.declared.verdict.VirtualChannel.{VirtualChannel}
@@ -15,130 +11,20 @@ use Rattle.fab_tables.specs.declared.verdict.Verdict.{Verdict}
 use Rattle.fab_tables.specs.declared.verdict.Verdict.TheVariants.{Routes, Lanes, Unreached, NoLevel, BadLane, NoNumber, NotRising}
 use Rattle.fab_tables.specs.Entries.{Entries}
 use Rattle.fab_tables.specs.LaneTables.{LaneTables, level}
-use Rattle.fab_tables.specs.Route.{route}
-use Rattle.fab_tables.specs.VirtualChannels.{at_level}
 use Rattle.fab_tables.specs.Dependencies.{IsUsed, Depends, DependsByNode, node_of}
-use Rattle.fab_tables.specs.First.{IsBefore}
-use Rattle.fab_tables.specs.Verdicts.{IsHop, Leaves, IsLaneFaultAt, IsFaultAt, IsStructural, IsRefusal}
-use Rattle.fab_tables.proofs.RouteFaults.{IsUnreached, unreached}
-use Rattle.fab_tables.proofs.StartFaults.{IsOfLid, of_lid}
+use Rattle.fab_tables.specs.Verdicts.{IsHop, IsLaneFaultAt, IsFaultAt, IsStructural, IsRefusal}
+use Rattle.fab_tables.proofs.OneVerdict.{one_refusal}
 use Rattle.fab_certify.specs.declared.certified.Certified.{Certified}
 use Rattle.fab_certify.specs.declared.certified.Certified.TheVariants.{Numbers, Refused, RingUsed}
-use Rattle.fab_certify.specs.Structural.{IsStructuralAt}
 use Rattle.fab_certify.specs.Numbered.{IsNumberedBy, IsNumberedPlan}
 use Rattle.fab_certify.specs.Certificate.{IsCertificateBy}
 use Rattle.fab_certify.specs.Laws.{OneCertificate}
 use Rattle.fab_certify.proofs.Numbering.{numbers_aside}
 use Rattle.fab_certify.proofs.Plainly.{refusal_is_unsound}
-use Rattle.fab_certify.proofs.Refusals.{either}
 use Rattle.fab_certify.proofs.SameLanes.{same_lanes, same_numbers}
 use Rattle.fab_certify.proofs.ReadAlike.{renumbered, used_aside, used_back, same_depends, sound_aside, numbered_is_acyclic, ring_is_cyclic}
 
--- of two places one comes first, unless they are the same
-order : (p q : List ℕ) → IsBefore p q ⊎ ((p ≡ q) ⊎ IsBefore q p)
-order [] [] = inr (inl refl)
-order [] (n ∷ ns) = inl tt
-order (m ∷ ms) [] = inr (inr tt)
-order (m ∷ ms) (n ∷ ns) = heads (cases_order m n) (order ms ns)
-  where
-    heads : (m ≡ n) ⊎ ((m < n) ⊎ (n < m)) → IsBefore ms ns ⊎ ((ms ≡ ns) ⊎ IsBefore ns ms) → IsBefore (m ∷ ms) (n ∷ ns) ⊎ (((m ∷ ms) ≡ (n ∷ ns)) ⊎ IsBefore (n ∷ ns) (m ∷ ms))
-    heads (inr (inl a)) t = inl (inl a)
-    heads (inr (inr a)) t = inr (inr (inl a))
-    heads (inl a) (inl b) = inl (inr (a, b))
-    heads (inl a) (inr (inl b)) = inr (inl (cc))
-    heads (inl a) (inr (inr b)) = inr (inr (inr (sym a, b)))
-
--- the numbers of a place
-at : (k : ℕ) (p q : List ℕ) → p ≡ q → slice_index p k ≡ slice_index q k
-at k p q e = ap (λ xs. slice_index xs k) e
-
-one_lid : (a b : Lid) → a.0 ≡ b.0 → a ≡ b
-one_lid a b e = ap (λ n. record { 0 = n }) e
-
-one_switch : (a b : SwitchId) → a.0 ≡ b.0 → a ≡ b
-one_switch a b e = ap (λ n. record { 0 = n }) e
-
 module _ (t : Topology) (e : Entries) (l : LaneTables) where
-  -- the hops at one place are one
-  one_hop : (lid source port hop lid' source' port' hop' : ℕ) (v w : VirtualChannel) → lid ≡ lid' → source ≡ source' → port ≡ port' → hop ≡ hop' → IsHop t e l lid source port hop v → IsHop t e l lid' source' port' hop' w → v ≡ w
-  one_hop lid source port hop lid' source' port' hop' v w a b c d x y = same_Some v w (sym x.at_hop ∙ same ∙ y.at_hop)
-    where
-      same : slice_get (at_level t l x.terminal.port ((route t e x.terminal.switch.0 lid).channels) (level l x.terminal.switch.0 lid)) hop
-          ≡ slice_get (at_level t l y.terminal.port ((route t e y.terminal.switch.0 lid').channels) (level l y.terminal.switch.0 lid')) hop'
-      same = ap (λ k. slice_get (at_level t l x.terminal.port ((route t e x.terminal.switch.0 lid).channels) (level l x.terminal.switch.0 lid)) k) d
-          ∙ ap (λ i. slice_get (at_level t l x.terminal.port ((route t e x.terminal.switch.0 i).channels) (level l x.terminal.switch.0 i)) hop') a
-          ∙ ap (λ s. slice_get (at_level t l x.terminal.port ((route t e s lid').channels) (level l s lid')) hop') (x.of_source ∙ b ∙ sym y.of_source)
-          ∙ ap (λ p. slice_get (at_level t l p ((route t e y.terminal.switch.0 lid').channels) (level l y.terminal.switch.0 lid')) hop') (x.at_port ∙ c ∙ sym y.at_port)
-
-  one_tail : (v w : VirtualChannel) (a b : SwitchId) → v ≡ w → Leaves t v a → Leaves t w b → a ≡ b
-  one_tail v w a b same x y =
-      sym x.2 ∙ ap (λ (c : ChannelRow). c.tail) (same_Some x.0 y.0 (sym x.1 ∙ ap (λ (u : VirtualChannel). slice_get t.channels u.channel.0) same ∙ y.1)) ∙ y.2
-
-  -- two faults of the lanes at one place are one
-  module _ (place : List ℕ) where
-    one_lane_fault : (v w : Verdict) → IsStructuralAt t e l place v → IsStructuralAt t e l place w → v ≡ w
-    one_lane_fault Routes w f g = absurd f.1
-    one_lane_fault Lanes w f g = absurd f.1
-    one_lane_fault (Unreached a b c) w f g = absurd f.1
-    one_lane_fault (NoNumber a b c) w f g = absurd f.0
-    one_lane_fault (NotRising a b c d m n) w f g = absurd f.0
-    one_lane_fault (NoLevel a b) Routes f g = absurd g.1
-    one_lane_fault (NoLevel a b) Lanes f g = absurd g.1
-    one_lane_fault (NoLevel a b) (Unreached a' b' c') f g = absurd g.1
-    one_lane_fault (NoLevel a b) (NoNumber a' b' c') f g = absurd g.0
-    one_lane_fault (NoLevel a b) (NotRising a' b' c' d' m' n') f g = absurd g.0
-    one_lane_fault (NoLevel a b) (BadLane a' b' c') f g = absurd (omega (arith, ap (λ (xs : List ℕ). length xs) (sym f.1.0 ∙ g.1.3)))
-    one_lane_fault (NoLevel a b) (NoLevel a' b') f g =
-        let is : (1 ∷ a.0 ∷ b.0 ∷ []) ≡ (1 ∷ a'.0 ∷ b'.0 ∷ []) = sym f.1.0 ∙ g.1.0 in
-        ap (λ x. NoLevel x b) (one_lid a a' (at 1 _ _ is)) ∙ ap (λ x. NoLevel a' x) (one_switch b b' (at 2 _ _ is))
-    one_lane_fault (BadLane a b c) Routes f g = absurd g.1
-    one_lane_fault (BadLane a b c) Lanes f g = absurd g.1
-    one_lane_fault (BadLane a b c) (Unreached a' b' c') f g = absurd g.1
-    one_lane_fault (BadLane a b c) (NoNumber a' b' c') f g = absurd g.0
-    one_lane_fault (BadLane a b c) (NotRising a' b' c' d' m' n') f g = absurd g.0
-    one_lane_fault (BadLane a b c) (NoLevel a' b') f g = absurd (omega (arith, ap (λ (xs : List ℕ). length xs) (sym f.1.3 ∙ g.1.0)))
-    one_lane_fault (BadLane a b c) (BadLane a' b' c') f g =
-        let is : (1 ∷ a.0 ∷ b.0 ∷ f.1.0 ∷ f.1.1 ∷ 0 ∷ []) ≡ (1 ∷ a'.0 ∷ b'.0 ∷ g.1.0 ∷ g.1.1 ∷ 0 ∷ []) = sym f.1.3 ∙ g.1.3 in
-        let hop : f.1.2 ≡ g.1.2 = one_hop a.0 b.0 f.1.0 f.1.1 a'.0 b'.0 g.1.0 g.1.1 f.1.2 g.1.2 (at 1 _ _ is) (at 2 _ _ is) (at 3 _ _ is) (at 4 _ _ is) f.1.4 g.1.4 in
-        ap (λ x. BadLane x b c) (one_lid a a' (at 1 _ _ is)) ∙ ap (λ x. BadLane a' x c) (one_switch b b' (at 2 _ _ is)) ∙ ap (λ x. BadLane a' b' x) (one_tail f.1.2 g.1.2 c c' hop f.1.5 g.1.5)
-
-    -- and two of the routes
-    one_route_fault : (v w : Verdict) → IsFaultAt t e None place v → IsFaultAt t e None place w → v ≡ w
-    one_route_fault Routes w f g = absurd (none-some f.0 f.1)
-    one_route_fault Lanes w f g = absurd (none-some f.0 f.1)
-    one_route_fault (NoLevel a b) w f g = absurd (none-some f.0 f.1)
-    one_route_fault (BadLane a b c) w f g = absurd (none-some f.0 f.1)
-    one_route_fault (NoNumber a b c) w f g = absurd (none-some f.0 f.1)
-    one_route_fault (NotRising a b c d m n) w f g = absurd (none-some f.0 f.1)
-    one_route_fault (Unreached a b c) Routes f g = absurd (none-some g.0 g.1)
-    one_route_fault (Unreached a b c) Lanes f g = absurd (none-some g.0 g.1)
-    one_route_fault (Unreached a b c) (NoLevel a' b') f g = absurd (none-some g.0 g.1)
-    one_route_fault (Unreached a b c) (BadLane a' b' c') f g = absurd (none-some g.0 g.1)
-    one_route_fault (Unreached a b c) (NoNumber a' b' c') f g = absurd (none-some g.0 g.1)
-    one_route_fault (Unreached a b c) (NotRising a' b' c' d' m' n') f g = absurd (none-some g.0 g.1)
-    one_route_fault (Unreached a b c) (Unreached a' b' c') f g =
-        let lid : a ≡ a' = one_lid a a' (at 1 _ _ (sym f.0 ∙ g.0)) in
-        let switch : b ≡ b' = one_switch b b' (at 2 _ _ (sym f.0 ∙ g.0)) in
-        let end : c ≡ c' = sym f.2 ∙ ap (λ (i : Lid). (route t e b.0 i.0).end) lid ∙ ap (λ (s : SwitchId). (route t e s.0 a'.0).end) switch ∙ g.2 in
-        ap (λ x. Unreached x b c) lid ∙ ap (λ x. Unreached a' x c) switch ∙ ap (λ x. Unreached a' b' x) end
-
-    -- those of the routes stand elsewhere
-    apart : (v w : Verdict) → IsFaultAt t e None place v → IsStructuralAt t e l place w → ⊥
-    apart v w f g = let x : IsUnreached t e place = unreached t e place v f in let y : IsOfLid t e l place = of_lid t e l place w g.1 in omega (arith, at 0 _ _ (sym x.2 ∙ y.3))
-
-    one_refused : (v w : Verdict) → IsStructural v × IsFaultAt t e (Some l) place v → IsStructural w × IsFaultAt t e (Some l) place w → v ≡ w
-    one_refused v w f g = elim (either t e l place v f) [
-      | inl x ↦ elim (either t e l place w g) [ inl y ↦ one_route_fault v w x y | inr y ↦ absurd (apart v w x y) ]
-      | inr x ↦ elim (either t e l place w g) [ inl y ↦ absurd (apart w v y x) | inr y ↦ one_lane_fault v w x y ]
-    ]
-
-  one_refusal : (v w : Verdict) → IsRefusal t e l v → IsRefusal t e l w → v ≡ w
-  one_refusal v w x y = elim (order x.0 y.0) [
-    | inl a ↦ absurd (y.2 x.0 v a x.1)
-    | inr (inl b) ↦ one_refused y.0 v w (subst (λ p. IsStructural v × IsFaultAt t e (Some l) p v) b x.1) y.1
-    | inr (inr c) ↦ absurd (x.2 y.0 w c y.1)
-  ]
-
   abbrev IsNumbered : LaneTables → Type 0
   IsNumbered m = IsNumberedBy (IsUsed t e l) (Depends t e l) l m
 
@@ -161,7 +47,7 @@ module _ (t : Topology) (e : Entries) (l : LaneTables) where
 
   -- by the same lanes two certificates are one
   one_by : (a b : Certified) → IsCertificateBy t e l a → IsCertificateBy t e l b → a ≡ b
-  one_by (Refused f) (Refused g) x y = ap (λ v. Refused v) (one_refusal f g x y)
+  one_by (Refused f) (Refused g) x y = ap (λ v. Refused v) (one_refusal t e l f g x y)
   one_by (Refused f) (RingUsed ring) x y = absurd (refusal_is_unsound t e l f x y.0)
   one_by (Refused f) (Numbers new) x y = absurd (refusal_is_unsound t e l f x y.0)
   one_by (RingUsed ring) (Refused f) x y = absurd (refusal_is_unsound t e l f y x.0)

@@ -9,7 +9,8 @@ use Rattle.fab_tables.specs.Fit.{IsSource}
 use Rattle.fab_tables.specs.Plain.{IsPlainlyUsed, DependsPlainly}
 use Rattle.fab_certify.specs.Numbered.{IsNumberedBy}
 use Rattle.fab_certify.specs.EnginePlans.{IsEnginePlan}
-use Rattle.fab_certify.proofs.SameLanes.{same_or_other, same_but_numbers, same_numbers}
+use Rattle.fab_tables.proofs.SameTables.{same_but_numbers}
+use Rattle.fab_certify.proofs.SameLanes.{same_or_other, same_numbers}
 
 -- so they are one
 module _ (t : Topology) (count : ℕ) (G H : ℕ → ℕ → ℕ → Type 0) (p q : Plan) (tables : p.tables ≡ q.tables)

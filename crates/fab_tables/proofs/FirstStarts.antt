@@ -1,5 +1,5 @@
 -- Of starts in order, the first of each source.
-use Rattle.std.proofs.Common.{◌≡◌, ℕ, ◌+◌, ◌<◌, ◌≤◌, List, [], ◌∷◌, ◌++◌, length, refl, sym, ◌∙◌, ap, subst, inl, inr, arith, Some, None, Option, Contains, slice_get}
+use Rattle.std.proofs.Common.{◌≡◌, ℕ, ◌+◌, ◌<◌, ◌≤◌, List, [], ◌∷◌, ◌++◌, length, refl, sym, ◌∙◌, ap, subst, inl, inr, ◌⊎◌, arith, Some, None, Option, Contains, slice_get}
 use Rattle.std.specs.Prelude.{All, slice_index_or}
 use Rattle.std.proofs.lemmas.Bool.{cases_lt}
 use Rattle.std.proofs.lemmas.List.{get_or_append_left, get_or_push, length_push}
@@ -10,7 +10,7 @@ use Rattle.fab_model.specs.declared.rows.TerminalRow.{TerminalRow}
 use Rattle.fab_model.specs.Topology.{Topology}
 use Rattle.fab_tables.specs.declared.starts.Start.{Start}
 use Rattle.fab_tables.specs.LaneTables.{LaneTables}
-use Rattle.fab_tables.specs.Starts.{start_of, IsNotAfter, IsOfTerminal, AreFirsts, HasFirst, StandsFor, AreStartsFor, IsInOrder, StartLists, AreAllStarts}
+use Rattle.fab_tables.specs.Starts.{start_of, StartsNotAfter, IsOfTerminal, AreStarts, AreFirsts, HasFirst, StandsFor, AreStartsFor, IsInOrder, StartLists, AreAllStarts}
 
 -- the first starts of those so far, and the last source
 pub record AreFirstsSoFar (starts firsts : List Start) (index : ℕ) (source : Option SwitchId) : Type 0 where
@@ -40,10 +40,10 @@ all_firsts starts firsts index source so past = record {
 module _ (starts : List Start) (order : IsInOrder starts) (firsts : List Start) (index : ℕ) (source : Option SwitchId) (so : AreFirstsSoFar starts firsts index source)
     (start : Start) (at : slice_get starts index ≡ Some start) where
   -- one that was taken isn't after this one
-  not_after : (first : Start) → (k : ℕ) × (k < index) × (slice_get starts k ≡ Some first) → IsNotAfter first start
+  not_after : (first : Start) → (k : ℕ) × (k < index) × (slice_get starts k ≡ Some first) → StartsNotAfter first start
   not_after first x =
-      subst (λ y. IsNotAfter first y) (get_or_from_slice_get starts index start start at)
-      (subst (λ y. IsNotAfter y (slice_index_or starts index start)) (get_or_from_slice_get starts x.0 first start x.2)
+      subst (λ y. StartsNotAfter first y) (get_or_from_slice_get starts index start start at)
+      (subst (λ y. StartsNotAfter y (slice_index_or starts index start)) (get_or_from_slice_get starts x.0 first start x.2)
       (order x.0 index start (omega (arith, x.1)) (slice_get_within starts index start at)))
 
   still : (new : List Start) → ((first : Start) → Contains firsts first → Contains new first) → (other : Start) → HasFirst firsts other → HasFirst new other
@@ -86,16 +86,16 @@ module _ (starts : List Start) (order : IsInOrder starts) (firsts : List Start) 
       order_more : IsInOrder (firsts ++ start ∷ [])
       order_more i j d below low = elim (cases_lt j (length firsts)) [
         | inl less ↦
-            subst (λ x. IsNotAfter (slice_index_or (firsts ++ start ∷ []) i d) x) (sym (get_or_append_left firsts (start ∷ []) d j less))
-            (subst (λ x. IsNotAfter x (slice_index_or firsts j d)) (sym (get_or_append_left firsts (start ∷ []) d i (omega (arith, below, less)))) (so.in_order i j d below less))
+            subst (λ x. StartsNotAfter (slice_index_or (firsts ++ start ∷ []) i d) x) (sym (get_or_append_left firsts (start ∷ []) d j less))
+            (subst (λ x. StartsNotAfter x (slice_index_or firsts j d)) (sym (get_or_append_left firsts (start ∷ []) d i (omega (arith, below, less)))) (so.in_order i j d below less))
         | inr past ↦
             (let is_last : length firsts ≡ j = omega (arith, past, low, length_push firsts start) in
-            subst (λ x. IsNotAfter (slice_index_or (firsts ++ start ∷ []) i d) x) (sym (get_or_push firsts start d j is_last)) (elim (cases_lt i (length firsts)) [
-              | inl before ↦ subst (λ x. IsNotAfter x start) (sym (get_or_append_left firsts (start ∷ []) d i before)) (not_after (slice_index_or firsts i d) (so.among i d before))
+            subst (λ x. StartsNotAfter (slice_index_or (firsts ++ start ∷ []) i d) x) (sym (get_or_push firsts start d j is_last)) (elim (cases_lt i (length firsts)) [
+              | inl before ↦ subst (λ x. StartsNotAfter x start) (sym (get_or_append_left firsts (start ∷ []) d i before)) (not_after (slice_index_or firsts i d) (so.among i d before))
               | inr there ↦
                   (let same : length firsts ≡ i = omega (arith, there, below, is_last) in
-                  let itself : IsNotAfter start start = inr (refl, omega arith) in
-                  subst (λ x. IsNotAfter x start) (sym (get_or_push firsts start d i same)) itself)
+                  let itself : StartsNotAfter start start = inr (refl, omega arith) in
+                  subst (λ x. StartsNotAfter x start) (sym (get_or_push firsts start d i same)) itself)
             ]))
       ]
 

@@ -23,7 +23,7 @@ IsInOrder starts = (i j : ℕ) (d : Start) → i ≤ j → j < length starts →
 abbrev pub IsOfTerminal : Topology → Start → Type 0
 IsOfTerminal t start = (row : TerminalRow) × Contains t.terminals row × (start_of row ≡ start)
 
--- those of all terminals of a fabric in order, each as often as terminals have it
+-- those of all terminals of a fabric in order, and no more: terminals have ports of their own, so each stands there once
 pub record AreStarts (t : Topology) (starts : List Start) : Type 0 where
   pub in_order : IsInOrder starts
   pub as_many : length starts ≡ length t.terminals
