@@ -2,6 +2,7 @@ pub mod Cables
 pub mod Examples
 pub mod Finds
 pub mod Lids
+pub mod LidsInUse
 pub mod Faultless
 pub mod FaultlessChannels
 pub mod FaultlessCount

@@ -1,6 +1,7 @@
-ghost use Rattle.std.specs.Prelude.{◌≡◌, ◌+◌, ◌<◌, ◌≤◌, ◌^◌, ◌==◌, length, slice_get, position, Some, None, IfOk, option_map};
+ghost use Rattle.std.specs.Prelude.{◌≡◌, ◌+◌, ◌<◌, ◌≤◌, ◌^◌, ◌==◌, length, slice_get, position, Some, None, IfOk, map, option_map};
 ghost use Rattle.fab_text.specs.Readings.{Gives};
 ghost use Rattle.fab_model.specs.Topology.{Topology, switch_id, channel_id, terminal_id, lid_id, switch_of, channel_at, terminal_at, IsReverse, first_channel, is_source, lids_of, place_of};
+ghost use Rattle.fab_model.specs.declared.rows.Lid.{Lid};
 ghost use Rattle.fab_model.specs.WellFormed.{IsFabric};
 ghost use Rattle.fab_model.specs.Written.{MakesItself};
 ghost use Rattle.fab_model.specs.Built as build;
@@ -226,6 +227,14 @@ impl Fabric {
         ensures kept { IsFabric self.now }
     {
         (self.switches.len() + self.terminals.len()) as u32
+    }
+
+    /// The LIDs in use, ascending: one for each switch and each terminal. Constant time.
+    pub fn lids_in_use(&self) -> &[Lid]
+        ensures lids { map (λ (lid : Lid). lid.0) result.now ≡ lids_of self.now }
+        ensures kept { IsFabric self.now }
+    {
+        &self.indexes.lids_in_use
     }
 
     /// Whether a switch has a terminal.
