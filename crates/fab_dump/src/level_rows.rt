@@ -1,3 +1,6 @@
+//! The rows of levels blocks: the service level of a source for one LID, in version 1, or for up to 64.
+//!
+//! A row costs its bytes.
 ghost use Rattle.std.specs.Prelude.{◌≡◌, ◌+◌, ◌<◌, ◌≤◌, ℕ, ◌++◌, ◌∷◌, [], slice_get, slice_index_or, drop, length, IfSome, None, Some};
 ghost use Rattle.std.specs.List.{zip};
 ghost use Rattle.fab_text.specs.Fields.{fields};

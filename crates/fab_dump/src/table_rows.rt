@@ -1,3 +1,7 @@
+//! The rows of table blocks: the port by which a switch forwards to one LID, in plain dumps and in version 1,
+//! or to each of up to 64.
+//!
+//! A row costs its bytes.
 ghost use Rattle.std.specs.Prelude.{◌≡◌, ◌+◌, ◌<◌, ◌≤◌, ℕ, ◌++◌, ◌∷◌, [], slice_get, slice_index_or, drop, length, MatchOption, IfSome, None, Some};
 ghost use Rattle.std.specs.List.{zip};
 ghost use Rattle.fab_text.specs.Fields.{fields, dec};
