@@ -1,7 +1,8 @@
 -- The reader after a head.
-use Rattle.std.proofs.Common.{◌≡◌, ℕ, ◌<◌, Bool, true, false, List, [], ◌∷◌, ◌++◌, length, length-set, replicate, get_or, Some, None, Option, Result, refl, sym, ◌∙◌, ap, subst, arith}
+use Rattle.std.proofs.Common.{◌≡◌, ℕ, ◌<◌, Bool, true, false, List, [], ◌∷◌, ◌++◌, length, length-set, replicate, get_or, nat_eq, Some, None, Option, Result, refl, sym, ◌∙◌, ap, subst, arith}
 use Rattle.std.specs.Prelude.{Vec, if◌then◌else◌, option_map, is_some, fold}
 use Rattle.std.specs.declared.alloc.Global.{Global}
+use Rattle.std.specs.Str.{bytes_eq}
 use Rattle.std.specs.Vec.{with_item}
 use Rattle.std.proofs.lemmas.Iterator.Adapters.{option_map_id}
 use Rattle.std.proofs.lemmas.List.{length-replicate, get_or-replicate}
@@ -13,14 +14,14 @@ use Rattle.fab_dump.specs.declared.fault.PlanFault.{PlanFault}
 use Rattle.fab_dump.specs.declared.form.Block.{Block}
 use Rattle.fab_dump.specs.declared.form.Block.TheVariants.{Table, Levels, MapRow, Numbers}
 use Rattle.fab_dump.specs.declared.reader.PlanReader.{PlanReader}
-use Rattle.fab_dump.specs.Given.{Given, was_given, lanes_with, plan_with, plan_given}
+use Rattle.fab_dump.specs.Given.{Given, subject, was_given, lanes_with, plan_with, plan_given}
 use Rattle.fab_dump.specs.Given.Given.{TableBlock, Port, LevelBlock, Level, MapBlock, Certificate}
 use Rattle.fab_dump.specs.Lines.{Form, State, Next, a_source, adds, goes, table_of, table_head}
 use Rattle.fab_dump.specs.Lines.Next.{Goes, Fails}
 use Rattle.fab_dump.specs.Orderly.{IsOrderly}
-use Rattle.fab_dump.specs.Standing.{Stands, AreRowMarks, Says}
-use Rattle.fab_dump.proofs.Marks.{marks_stay, mark_set, not_of, now_of, same_switch}
-use Rattle.fab_dump.proofs.PlansOver.{plan_said}
+use Rattle.fab_dump.specs.Standing.{Stands, AreMarks, AreRowMarks, Says}
+use Rattle.fab_dump.proofs.After.{MarksOf, tables_kept, levels_kept, maps_kept, certificate_kept, after}
+use Rattle.fab_dump.proofs.Marks.{mark_set, not_of, now_of, same_switch}
 
 -- a head says nothing of the plan
 silent : (p : Plan) → p ≡ record { tables = p.tables; lanes = option_map (λ l. l) p.lanes }
@@ -31,103 +32,59 @@ no_marks : (lids : List ℕ) (statement : ℕ → Given) (given : List Given) (m
 no_marks lids statement given marks none h = λ lid place found.
     ap (λ ms. get_or ms place false) none ∙ get_or-replicate (length lids) place false false (index_found lid lids place found).0 ∙ sym (h lid)
 
-module _ (t : Topology) (f : Form) (s : State) (r : PlanReader) (stands : Stands t f s r) where
-  pub after_table_head : (switch : SwitchId) (rows : Vec Bool Global) → IsOrderly t f s → was_given s.given (TableBlock switch.0) ≡ false → switch.0 < length t.switches →
-      rows.items ≡ replicate (length r.rows.items) false →
-      Stands t f (record { open_block = Table (Some (switch_id switch.0)); given = s.given ++ TableBlock switch.0 ∷ [] })
-      (record r { block = Table (Some switch); table_blocks = with_item r.table_blocks switch.0 true; rows = rows })
-  after_table_head switch rows orderly new low none = record {
-    fits = record {
-      fabric = stands.fits.fabric;
-      block = low;
-      plan = stands.fits.plan;
-      lids = stands.fits.lids;
-      table_marks = length-set r.table_blocks.items switch.0 true ∙ stands.fits.table_marks;
-      level_marks = stands.fits.level_marks;
-      map_marks = stands.fits.map_marks;
-      row_marks = ap length none ∙ length-replicate (length r.rows.items) false ∙ stands.fits.row_marks;
-    };
-    version = stands.version;
-    block = refl;
-    plan = plan_said t f.count s.given r.plan r.plan (TableBlock switch.0) stands.plan (silent r.plan);
-    tables = mark_set (length t.switches) TableBlock s.given r.table_blocks.items switch.0 (λ other. same_switch switch.0 other) (omega (arith, low, stands.fits.table_marks)) stands.tables;
-    levels = marks_stay (length t.switches) LevelBlock s.given (TableBlock switch.0) r.level_blocks.items (λ s. refl) stands.levels;
-    maps = marks_stay (length t.switches) MapBlock s.given (TableBlock switch.0) r.map_blocks.items (λ s. refl) stands.maps;
-    certificate = stands.certificate ∙ sym (not_of s.given (TableBlock switch.0) Certificate refl);
-    rows = no_marks (lids_of t) (λ lid. Port switch.0 lid 0) (s.given ++ TableBlock switch.0 ∷ []) rows.items (none ∙ ap (λ n. replicate n false) stands.fits.row_marks)
-        (λ lid. not_of s.given (TableBlock switch.0) (Port switch.0 lid 0) refl ∙ orderly.tables switch.0 lid new);
-  }
+module _ (f : Form) (s : State) (r : PlanReader) (stands : Stands r.fabric.now f s r) where
+  abbrev switches : ℕ
+  switches = length r.fabric.now.switches
 
-  pub after_levels_head : (switch : SwitchId) (rows : Vec Bool Global) → IsOrderly t f s → was_given s.given (LevelBlock switch.0) ≡ false → switch.0 < length t.switches →
-      rows.items ≡ replicate (length r.rows.items) false →
-      Stands t f (record { open_block = Levels (switch_id switch.0); given = s.given ++ LevelBlock switch.0 ∷ [] })
-      (record r { block = Levels switch; level_blocks = with_item r.level_blocks switch.0 true; rows = rows })
-  after_levels_head switch rows orderly new low none = record {
-    fits = record {
-      fabric = stands.fits.fabric;
-      block = low;
-      plan = stands.fits.plan;
-      lids = stands.fits.lids;
-      table_marks = stands.fits.table_marks;
-      level_marks = length-set r.level_blocks.items switch.0 true ∙ stands.fits.level_marks;
-      map_marks = stands.fits.map_marks;
-      row_marks = ap length none ∙ length-replicate (length r.rows.items) false ∙ stands.fits.row_marks;
-    };
-    version = stands.version;
-    block = refl;
-    plan = plan_said t f.count s.given r.plan r.plan (LevelBlock switch.0) stands.plan (silent r.plan);
-    tables = marks_stay (length t.switches) TableBlock s.given (LevelBlock switch.0) r.table_blocks.items (λ s. refl) stands.tables;
-    levels = mark_set (length t.switches) LevelBlock s.given r.level_blocks.items switch.0 (λ other. same_switch switch.0 other) (omega (arith, low, stands.fits.level_marks)) stands.levels;
-    maps = marks_stay (length t.switches) MapBlock s.given (LevelBlock switch.0) r.map_blocks.items (λ s. refl) stands.maps;
-    certificate = stands.certificate ∙ sym (not_of s.given (LevelBlock switch.0) Certificate refl);
-    rows = no_marks (lids_of t) (λ lid. Level switch.0 lid None) (s.given ++ LevelBlock switch.0 ∷ []) rows.items (none ∙ ap (λ n. replicate n false) stands.fits.row_marks)
-        (λ lid. not_of s.given (LevelBlock switch.0) (Level switch.0 lid None) refl ∙ orderly.levels switch.0 lid new);
-  }
+  abbrev lids : List ℕ
+  lids = lids_of r.fabric.now
 
-  pub after_map_head : (switch : SwitchId) → switch.0 < length t.switches →
-      Stands t f (record { open_block = MapRow (switch_id switch.0); given = s.given ++ MapBlock switch.0 ∷ [] }) (record r { block = MapRow switch; map_blocks = with_item r.map_blocks switch.0 true })
-  after_map_head switch low = record {
-    fits = record {
-      fabric = stands.fits.fabric;
-      block = low;
-      plan = stands.fits.plan;
-      lids = stands.fits.lids;
-      table_marks = stands.fits.table_marks;
-      level_marks = stands.fits.level_marks;
-      map_marks = length-set r.map_blocks.items switch.0 true ∙ stands.fits.map_marks;
-      row_marks = stands.fits.row_marks;
-    };
-    version = stands.version;
-    block = refl;
-    plan = plan_said t f.count s.given r.plan r.plan (MapBlock switch.0) stands.plan (silent r.plan);
-    tables = marks_stay (length t.switches) TableBlock s.given (MapBlock switch.0) r.table_blocks.items (λ s. refl) stands.tables;
-    levels = marks_stay (length t.switches) LevelBlock s.given (MapBlock switch.0) r.level_blocks.items (λ s. refl) stands.levels;
-    maps = mark_set (length t.switches) MapBlock s.given r.map_blocks.items switch.0 (λ other. same_switch switch.0 other) (omega (arith, low, stands.fits.map_marks)) stands.maps;
-    certificate = stands.certificate ∙ sym (not_of s.given (MapBlock switch.0) Certificate refl);
-    rows = tt;
-  }
+  -- the mark of the switch whose block was opened
+  marked : (statement : ℕ → Given) (marks : Vec Bool Global) (switch : ℕ) → ((other : ℕ) → bytes_eq (subject (statement switch)) (subject (statement other)) ≡ nat_eq switch other) → switch < switches →
+      length marks.items ≡ switches → AreMarks switches statement s.given marks.items → MarksOf r (s.given ++ statement switch ∷ []) statement (with_item marks switch true).items
+  marked statement marks switch same low size are = (length-set marks.items switch true ∙ size, mark_set switches statement s.given marks.items switch same (omega (arith, low, size)) are)
 
-  pub after_certificate : Stands t f (record { open_block = Numbers; given = s.given ++ Certificate ∷ [] }) (record r { block = Numbers; certificate = true })
-  after_certificate = record {
-    fits = record {
-      fabric = stands.fits.fabric;
-      block = tt;
-      plan = stands.fits.plan;
-      lids = stands.fits.lids;
-      table_marks = stands.fits.table_marks;
-      level_marks = stands.fits.level_marks;
-      map_marks = stands.fits.map_marks;
-      row_marks = stands.fits.row_marks;
-    };
-    version = stands.version;
-    block = refl;
-    plan = plan_said t f.count s.given r.plan r.plan Certificate stands.plan (silent r.plan);
-    tables = marks_stay (length t.switches) TableBlock s.given Certificate r.table_blocks.items (λ s. refl) stands.tables;
-    levels = marks_stay (length t.switches) LevelBlock s.given Certificate r.level_blocks.items (λ s. refl) stands.levels;
-    maps = marks_stay (length t.switches) MapBlock s.given Certificate r.map_blocks.items (λ s. refl) stands.maps;
-    certificate = sym (now_of s.given Certificate Certificate refl);
-    rows = tt;
-  }
+  all_unread : (read : Vec Bool Global) → read.items ≡ replicate (length r.lids_read.items) false → read.items ≡ replicate (length lids) false
+  all_unread read none = none ∙ ap (λ n. replicate n false) stands.fits.row_marks
+
+  pub after_table_head : (switch : SwitchId) (read : Vec Bool Global) → IsOrderly r.fabric.now f s → was_given s.given (TableBlock switch.0) ≡ false → switch.0 < switches →
+      read.items ≡ replicate (length r.lids_read.items) false →
+      Stands r.fabric.now f (record { open_block = Table (Some (switch_id switch.0)); given = s.given ++ TableBlock switch.0 ∷ [] })
+      (record r { block = Table (Some switch); table_blocks = with_item r.table_blocks switch.0 true; lids_read = read })
+  after_table_head switch read orderly new low none =
+      after f s r stands (TableBlock switch.0) r.plan (Table (Some switch)) (with_item r.table_blocks switch.0 true) r.level_blocks r.map_blocks r.certificate read (silent r.plan) low
+      (marked TableBlock r.table_blocks switch.0 (λ other. same_switch switch.0 other) low stands.fits.table_marks stands.tables)
+      (levels_kept f s r stands (TableBlock switch.0) (λ k. refl)) (maps_kept f s r stands (TableBlock switch.0) (λ k. refl)) (certificate_kept f s r stands (TableBlock switch.0) refl)
+      (ap length (all_unread read none) ∙ length-replicate (length lids) false)
+      (no_marks lids (λ lid. Port switch.0 lid 0) (s.given ++ TableBlock switch.0 ∷ []) read.items (all_unread read none)
+      (λ lid. not_of s.given (TableBlock switch.0) (Port switch.0 lid 0) refl ∙ orderly.tables switch.0 lid new))
+
+  pub after_levels_head : (switch : SwitchId) (read : Vec Bool Global) → IsOrderly r.fabric.now f s → was_given s.given (LevelBlock switch.0) ≡ false → switch.0 < switches →
+      read.items ≡ replicate (length r.lids_read.items) false →
+      Stands r.fabric.now f (record { open_block = Levels (switch_id switch.0); given = s.given ++ LevelBlock switch.0 ∷ [] })
+      (record r { block = Levels switch; level_blocks = with_item r.level_blocks switch.0 true; lids_read = read })
+  after_levels_head switch read orderly new low none =
+      after f s r stands (LevelBlock switch.0) r.plan (Levels switch) r.table_blocks (with_item r.level_blocks switch.0 true) r.map_blocks r.certificate read (silent r.plan) low
+      (tables_kept f s r stands (LevelBlock switch.0) (λ k. refl))
+      (marked LevelBlock r.level_blocks switch.0 (λ other. same_switch switch.0 other) low stands.fits.level_marks stands.levels)
+      (maps_kept f s r stands (LevelBlock switch.0) (λ k. refl)) (certificate_kept f s r stands (LevelBlock switch.0) refl)
+      (ap length (all_unread read none) ∙ length-replicate (length lids) false)
+      (no_marks lids (λ lid. Level switch.0 lid None) (s.given ++ LevelBlock switch.0 ∷ []) read.items (all_unread read none)
+      (λ lid. not_of s.given (LevelBlock switch.0) (Level switch.0 lid None) refl ∙ orderly.levels switch.0 lid new))
+
+  pub after_map_head : (switch : SwitchId) → switch.0 < switches →
+      Stands r.fabric.now f (record { open_block = MapRow (switch_id switch.0); given = s.given ++ MapBlock switch.0 ∷ [] }) (record r { block = MapRow switch; map_blocks = with_item r.map_blocks switch.0 true })
+  after_map_head switch low =
+      after f s r stands (MapBlock switch.0) r.plan (MapRow switch) r.table_blocks r.level_blocks (with_item r.map_blocks switch.0 true) r.certificate r.lids_read (silent r.plan) low
+      (tables_kept f s r stands (MapBlock switch.0) (λ k. refl)) (levels_kept f s r stands (MapBlock switch.0) (λ k. refl))
+      (marked MapBlock r.map_blocks switch.0 (λ other. same_switch switch.0 other) low stands.fits.map_marks stands.maps)
+      (certificate_kept f s r stands (MapBlock switch.0) refl) stands.fits.row_marks tt
+
+  pub after_certificate : Stands r.fabric.now f (record { open_block = Numbers; given = s.given ++ Certificate ∷ [] }) (record r { block = Numbers; certificate = true })
+  after_certificate =
+      after f s r stands Certificate r.plan Numbers r.table_blocks r.level_blocks r.map_blocks true r.lids_read (silent r.plan) tt
+      (tables_kept f s r stands Certificate (λ k. refl)) (levels_kept f s r stands Certificate (λ k. refl)) (maps_kept f s r stands Certificate (λ k. refl))
+      (sym (now_of s.given Certificate Certificate refl)) stands.fits.row_marks tt
 
 -- a head of something new goes on
 pub new_added : (twice : PlanFault) (s : State) (now_open : Block) (new : Given) → was_given s.given new ≡ false →
@@ -182,8 +139,8 @@ says_same t f r answer x y e h = subst (λ (n : Next). Says t f r answer n) (sym
 pub strange_head : (t : Topology) (f : Form) (n : ℕ) (s : State) (guid : Option ℕ) (g : ℕ) → Some g ≡ guid → switch_of t g ≡ None → table_head t f n s guid ≡ table_of f n s None
 strange_head t f n s guid g e h = ap (table_head t f n s) (sym e) ∙ ap (table_of f n s) h
 
-pub after_strange_head : (t : Topology) (f : Form) (s : State) (r : PlanReader) → Stands t f s r → Stands t f (record { open_block = Table None; given = s.given }) (record r { block = Table None })
-after_strange_head t f s r stands = record {
+pub after_strange_head : (f : Form) (s : State) (r : PlanReader) → Stands r.fabric.now f s r → Stands r.fabric.now f (record { open_block = Table None; given = s.given }) (record r { block = Table None })
+after_strange_head f s r stands = record {
   fits = record {
     fabric = stands.fits.fabric;
     block = tt;
@@ -194,6 +151,7 @@ after_strange_head t f s r stands = record {
     map_marks = stands.fits.map_marks;
     row_marks = stands.fits.row_marks;
   };
+  same = refl;
   version = stands.version;
   block = refl;
   plan = stands.plan;

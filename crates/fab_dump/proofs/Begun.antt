@@ -25,26 +25,29 @@ no_marks count statement marks e = λ s low. ap (λ (ms : List Bool). get_or ms 
 marks_of : (count : ℕ) (marks : List Bool) → marks ≡ replicate count false → length marks ≡ count
 marks_of count marks e = ap length e ∙ length-replicate count false
 
-pub begun : (t : Topology) (f : Form) (r : PlanReader) → IsFabric t → r.version ≡ f.version → r.plan ≡ empty_plan t f.count → r.block ≡ Nothing → r.lids ≡ lids_of t →
-    r.table_blocks.items ≡ replicate (length t.switches) false → r.level_blocks.items ≡ replicate (length t.switches) false → r.map_blocks.items ≡ replicate (length t.switches) false →
-    r.certificate ≡ false → r.rows.items ≡ replicate (length (lids_of t)) false → Stands t f nothing_read r
-begun t f r fabric version plan block lids tables levels maps certificate rows = record {
-  fits = record {
-    fabric = fabric;
-    block = subst (λ (b : Block). IsWithin (length t.switches) b) (sym block) tt;
-    plan = subst (PlanIsOver t) (sym plan) (plan_over t f.count);
-    lids = lids;
-    table_marks = marks_of (length t.switches) r.table_blocks.items tables;
-    level_marks = marks_of (length t.switches) r.level_blocks.items levels;
-    map_marks = marks_of (length t.switches) r.map_blocks.items maps;
-    row_marks = marks_of (length (lids_of t)) r.rows.items rows;
-  };
-  version = version;
-  block = block;
-  plan = plan;
-  tables = no_marks (length t.switches) TableBlock r.table_blocks.items tables;
-  levels = no_marks (length t.switches) LevelBlock r.level_blocks.items levels;
-  maps = no_marks (length t.switches) MapBlock r.map_blocks.items maps;
-  certificate = certificate;
-  rows = tt;
-}
+pub begun : (f : Form) (r : PlanReader) → IsFabric r.fabric.now → r.version ≡ f.version → r.plan ≡ empty_plan r.fabric.now f.count → r.block ≡ Nothing → r.lids ≡ lids_of r.fabric.now →
+    r.table_blocks.items ≡ replicate (length r.fabric.now.switches) false → r.level_blocks.items ≡ replicate (length r.fabric.now.switches) false →
+    r.map_blocks.items ≡ replicate (length r.fabric.now.switches) false → r.certificate ≡ false → r.lids_read.items ≡ replicate (length (lids_of r.fabric.now)) false → Stands r.fabric.now f nothing_read r
+begun f r fabric version plan block lids tables levels maps certificate read =
+    let t : Topology = r.fabric.now in
+    record {
+      fits = record {
+        fabric = fabric;
+        block = subst (λ (b : Block). IsWithin (length t.switches) b) (sym block) tt;
+        plan = subst (PlanIsOver t) (sym plan) (plan_over t f.count);
+        lids = lids;
+        table_marks = marks_of (length t.switches) r.table_blocks.items tables;
+        level_marks = marks_of (length t.switches) r.level_blocks.items levels;
+        map_marks = marks_of (length t.switches) r.map_blocks.items maps;
+        row_marks = marks_of (length (lids_of t)) r.lids_read.items read;
+      };
+      same = refl;
+      version = version;
+      block = block;
+      plan = plan;
+      tables = no_marks (length t.switches) TableBlock r.table_blocks.items tables;
+      levels = no_marks (length t.switches) LevelBlock r.level_blocks.items levels;
+      maps = no_marks (length t.switches) MapBlock r.map_blocks.items maps;
+      certificate = certificate;
+      rows = tt;
+    }

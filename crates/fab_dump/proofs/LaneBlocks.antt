@@ -29,7 +29,10 @@ not_not : (b : Bool) → not (not b) ≡ b
 not_not true = refl
 not_not false = refl
 
-module _ (t : Topology) (f : Form) (s : State) (r : PlanReader) (stands : Stands t f s r) (orderly : IsOrderly t f s) where
+module _ (f : Form) (s : State) (r : PlanReader) (stands : Stands r.fabric.now f s r) (orderly : IsOrderly r.fabric.now f s) where
+  abbrev t : Topology
+  t = r.fabric.now
+
   told : IfSome r.plan.lanes (LanesTell s.given)
   told = subst (λ (p : Plan). IfSome p.lanes (LanesTell s.given)) (sym stands.plan) orderly.told
 

@@ -7,6 +7,7 @@ pub mod RowValues
 pub mod LaneMaps
 pub mod LaneSteps
 pub mod PlansOver
+pub mod After
 pub mod AfterHeads
 pub mod AfterRows
 pub mod ShortRows

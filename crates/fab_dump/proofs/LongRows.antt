@@ -8,20 +8,17 @@ use Rattle.std.proofs.lemmas.List.{get_or-drop, get_or_default, append_assoc, ap
 use Rattle.std.proofs.lemmas.List.Kept.{AllPairs-from_increasing}
 use Rattle.std.proofs.lemmas.Option.{slice_get_within, get_or_from_slice_get, slice_get-get_or}
 use Rattle.fab_text.specs.Fields.{hex, all_read}
-use Rattle.fab_model.specs.declared.rows.SwitchId.{SwitchId}
 use Rattle.fab_model.specs.declared.rows.Lid.{Lid}
-use Rattle.fab_model.specs.Topology.{Topology, lids_of, switch_id, lid_id}
+use Rattle.fab_model.specs.Topology.{Topology, lids_of, lid_id}
 use Rattle.fab_model.specs.WellFormed.{IsFabric}
 use Rattle.fab_tables.specs.Entries.{index_of}
 use Rattle.fab_tables.proofs.Cells.{index_found, index_there}
 use Rattle.fab_tables.proofs.Ascending.{lids_are, lid_read}
 use Rattle.fab_dump.specs.declared.fault.PlanFault.{PlanFault}
 use Rattle.fab_dump.specs.declared.form.Block.{Block}
-use Rattle.fab_dump.specs.declared.form.Block.TheVariants.{Table, Levels}
 use Rattle.fab_dump.specs.declared.reader.PlanReader.{PlanReader}
 use Rattle.fab_dump.specs.FieldsLeft.{AreNot, AreRowLids}
-use Rattle.fab_dump.specs.Given.{Given, was_given, ports_said, levels_said}
-use Rattle.fab_dump.specs.Given.Given.{Port, Level}
+use Rattle.fab_dump.specs.Given.{Given, was_given, said_of}
 use Rattle.fab_dump.specs.Lines.{Form, State, adds, goes, lids_at, lids_from, row_lids, paired, long_row}
 use Rattle.fab_dump.specs.Lines.Next.{Goes, Fails}
 use Rattle.fab_dump.specs.Standing.{Stands}
@@ -159,32 +156,19 @@ same_lid_there lids place lid found got e = unsome found.0 lid (sym (lid_read (s
     unsome : (a b : ℕ) → Some a ≡ Some b → a ≡ b
     unsome a b e = cc
 
-pub one_port_said : (t : Topology) (f : Form) (s : State) (r : PlanReader) (switch : SwitchId) (first : ℕ) (values : List (ℕ)) (i : ℕ) → first + length values ≤ length (lids_of t) → i < length values →
+pub one_value_said : {A : Type 0} (t : Topology) (f : Form) (s : State) (r : PlanReader) (b : Block) (say : ℕ → A → Given) (none : A) (first : ℕ) (values : List A) (i : ℕ) →
+    first + length values ≤ length (lids_of t) → i < length values →
     ((lid : ℕ) → slice_get (lids_of t) (first + i) ≡ Some lid → Stands t f
-    (record { open_block = Table (Some (switch_id switch.0)); given = (s.given ++ take i (ports_said switch.0 (zip (drop first (lids_of t)) values))) ++ Port switch.0 lid (get_or values i 0) ∷ [] }) r) →
-    Stands t f (record { open_block = Table (Some (switch_id switch.0)); given = s.given ++ take (i + 1) (ports_said switch.0 (zip (drop first (lids_of t)) values)) }) r
-one_port_said t f s r switch first values i within low h =
+    (record { open_block = b; given = (s.given ++ take i (said_of say (zip (drop first (lids_of t)) values))) ++ say lid (get_or values i none) ∷ [] }) r) →
+    Stands t f (record { open_block = b; given = s.given ++ take (i + 1) (said_of say (zip (drop first (lids_of t)) values)) }) r
+one_value_said {A} t f s r b say none first values i within low h =
     let lids : List ℕ = lids_of t in
     let rest : List ℕ = drop first lids in
     let lid : ℕ = get_or lids (first + i) 0 in
     let size : length rest ≡ length lids - first = length-drop first lids in
     let there : get_or rest i lid ≡ lid = get_or-drop first lids i lid ∙ get_or_default lids (first + i) lid 0 (omega (arith, within, low)) in
-    one_said t f s r (Table (Some (switch_id switch.0))) (ports_said switch.0 (zip rest values)) (Port switch.0 lid (get_or values i 0)) i
-    (zip_more (λ (row : ℕ × ℕ). Port switch.0 row.0 row.1) rest values i lid (get_or values i 0) (omega (arith, size, within, low)) low there (get_or_default values i (get_or values i 0) 0 low))
-    (h lid (slice_get-get_or lids (first + i) 0 (omega (arith, within, low))))
-
-pub one_level_said : (t : Topology) (f : Form) (s : State) (r : PlanReader) (switch : SwitchId) (first : ℕ) (values : List (Option ℕ)) (i : ℕ) → first + length values ≤ length (lids_of t) → i < length values →
-    ((lid : ℕ) → slice_get (lids_of t) (first + i) ≡ Some lid → Stands t f
-    (record { open_block = Levels (switch_id switch.0); given = (s.given ++ take i (levels_said switch.0 (zip (drop first (lids_of t)) values))) ++ Level switch.0 lid (get_or values i None) ∷ [] }) r) →
-    Stands t f (record { open_block = Levels (switch_id switch.0); given = s.given ++ take (i + 1) (levels_said switch.0 (zip (drop first (lids_of t)) values)) }) r
-one_level_said t f s r switch first values i within low h =
-    let lids : List ℕ = lids_of t in
-    let rest : List ℕ = drop first lids in
-    let lid : ℕ = get_or lids (first + i) 0 in
-    let size : length rest ≡ length lids - first = length-drop first lids in
-    let there : get_or rest i lid ≡ lid = get_or-drop first lids i lid ∙ get_or_default lids (first + i) lid 0 (omega (arith, within, low)) in
-    one_said t f s r (Levels (switch_id switch.0)) (levels_said switch.0 (zip rest values)) (Level switch.0 lid (get_or values i None)) i
-    (zip_more (λ (row : ℕ × Option ℕ). Level switch.0 row.0 row.1) rest values i lid (get_or values i None) (omega (arith, size, within, low)) low there (get_or_default values i (get_or values i None) None low))
+    one_said t f s r b (said_of say (zip rest values)) (say lid (get_or values i none)) i
+    (zip_more (λ (row : ℕ × A). say row.0 row.1) rest values i lid (get_or values i none) (omega (arith, size, within, low)) low there (get_or_default values i (get_or values i none) none low))
     (h lid (slice_get-get_or lids (first + i) 0 (omega (arith, within, low))))
 
 pub row_of : (a b : List ℕ) (x y : List (List ℕ)) (place : ℕ × ℕ) → a ≡ b → x ≡ y → AreRowLids a place (row_lids a x) → AreRowLids b place (row_lids b y)

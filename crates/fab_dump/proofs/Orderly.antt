@@ -21,9 +21,9 @@ use Rattle.fab_dump.specs.declared.form.Block.{Block}
 use Rattle.fab_dump.specs.declared.form.Block.TheVariants.{Nothing, Table, Levels, MapRow, Pairs, Numbers}
 use Rattle.fab_dump.specs.declared.line_kind.LineKind.{LineKind}
 use Rattle.fab_dump.specs.declared.line_kind.LineKind.TheVariants.{Comment, TableHead, Row, LevelsHead, MapHead, CertificateHead, PairLine, EndPlan, Other}
-use Rattle.fab_dump.specs.Given.{Given, subject, was_given, plan_with, plan_given, lanes_with, tables_with, ports_said, levels_said, with_lanes}
+use Rattle.fab_dump.specs.Given.{Given, subject, was_given, plan_with, plan_given, lanes_with, tables_with, said_of, with_lanes}
 use Rattle.fab_dump.specs.Given.Given.{TableBlock, Port, LevelBlock, Level, MapBlock, Map, PairMap, Certificate, Number}
-use Rattle.fab_dump.specs.Lines.{Form, State, Next, adds, goes, is_dump, says_one_lid, has_pairs, is_in_use, short_table_row, long_table_row, strange_row, short_level_row, long_level_row, table_row, level_row, level_field, long_row, row_in, lanes_read, map_row, pair_row, adds_pair, pair_in, is_pair_map, number_row, adds_number, table_of, table_head, table_guid, head_guid, levels_head, map_head, a_source, opens, dump_line, plan_line, waiting_line, line_of_plan, line_says, kind_of}
+use Rattle.fab_dump.specs.Lines.{Form, State, Next, adds, goes, is_dump, says_one_lid, has_pairs, is_in_use, short_table_row, long_table_row, short_row, values_row, strange_row, short_level_row, long_level_row, table_row, level_row, level_field, long_row, row_in, lanes_read, map_row, pair_row, adds_pair, pair_in, is_pair_map, number_row, adds_number, table_of, table_head, table_guid, head_guid, levels_head, map_head, a_source, opens, dump_line, plan_line, waiting_line, line_of_plan, line_says, kind_of}
 use Rattle.fab_dump.specs.Lines.Next.{Goes, Fails}
 use Rattle.fab_dump.specs.Orderly.{IsOrderly, IsOpened, MayBeOpen, HeadsComeFirst, LanesTell}
 use Rattle.fab_dump.proofs.Marks.{was_given-push, not_of, now_of, same_switch, plan_given-push, same_number}
@@ -141,13 +141,6 @@ orderly_port t f given switch lid port low h =
     (rows_more t f (Table (Some switch)) given h TableBlock (λ k other. Port k other 0) (Port switch.0 lid port) switch.0 h.opened (λ k. refl) (λ k other e. apart_rows switch.0 k lid other e) h.tables)
     (heads_stay t f (Table (Some switch)) given h LevelBlock (λ k other. Level k other None) (Port switch.0 lid port) (λ k. refl) (λ k other. refl) h.levels)
 
-orderly_ports : (t : Topology) (f : Form) (given : List Given) (switch : SwitchId) (rows : List (ℕ × ℕ)) → All (λ (r : ℕ × ℕ). Contains (lids_of t) r.0 × (r.1 < 256)) rows →
-    IsOrderly t f (record { open_block = Table (Some switch); given = given }) → IsOrderly t f (record { open_block = Table (Some switch); given = given ++ ports_said switch.0 rows })
-orderly_ports t f given switch [] all h = subst (λ (g : List Given). IsOrderly t f (record { open_block = Table (Some switch); given = g })) (sym (append-nil given)) h
-orderly_ports t f given switch (row ∷ rows) all h =
-    subst (λ (g : List Given). IsOrderly t f (record { open_block = Table (Some switch); given = g })) (append_assoc given (Port switch.0 row.0 row.1 ∷ []) (ports_said switch.0 rows))
-    (orderly_ports t f (given ++ Port switch.0 row.0 row.1 ∷ []) switch rows (All-tail (λ (r : ℕ × ℕ). Contains (lids_of t) r.0 × (r.1 < 256)) row rows all) (orderly_port t f given switch row.0 row.1 (All-head (λ (r : ℕ × ℕ). Contains (lids_of t) r.0 × (r.1 < 256)) row rows all).1 h))
-
 orderly_level : (t : Topology) (f : Form) (given : List Given) (switch : SwitchId) (lid : ℕ) (new : Option ℕ) → Contains (lids_of t) lid → IfSome new (λ n. n < 16) →
     IsOrderly t f (record { open_block = Levels switch; given = given }) → IsOrderly t f (record { open_block = Levels switch; given = given ++ Level switch.0 lid new ∷ [] })
 orderly_level t f given switch lid new there low h =
@@ -157,18 +150,6 @@ orderly_level t f given switch lid new there low h =
     (not_of given (Level switch.0 lid new) (LevelBlock switch.0) refl ∙ h.opened)
     (heads_stay t f (Levels switch) given h TableBlock (λ k other. Port k other 0) (Level switch.0 lid new) (λ k. refl) (λ k other. refl) h.tables)
     (rows_more t f (Levels switch) given h LevelBlock (λ k other. Level k other None) (Level switch.0 lid new) switch.0 h.opened (λ k. refl) (λ k other e. apart_rows switch.0 k lid other e) h.levels)
-
-orderly_level_rows : (t : Topology) (f : Form) (given : List Given) (switch : SwitchId) (rows : List (ℕ × Option ℕ)) →
-    All (λ (r : ℕ × Option ℕ). Contains (lids_of t) r.0 × IfSome r.1 (λ n. n < 16)) rows → IsOrderly t f (record { open_block = Levels switch; given = given }) →
-    IsOrderly t f (record { open_block = Levels switch; given = given ++ levels_said switch.0 rows })
-orderly_level_rows t f given switch [] all h = subst (λ (g : List Given). IsOrderly t f (record { open_block = Levels switch; given = g })) (sym (append-nil given)) h
-orderly_level_rows t f given switch (row ∷ rows) all h =
-    subst (λ (g : List Given). IsOrderly t f (record { open_block = Levels switch; given = g })) (append_assoc given (Level switch.0 row.0 row.1 ∷ []) (levels_said switch.0 rows))
-    (orderly_level_rows t f (given ++ Level switch.0 row.0 row.1 ∷ []) switch rows (All-tail (λ (r : ℕ × Option ℕ). Contains (lids_of t) r.0 × IfSome r.1 (λ n. n < 16)) row rows all)
-    (orderly_level t f given switch row.0 row.1 (first row rows all).0 (first row rows all).1 h))
-  where
-    first : (row : ℕ × Option ℕ) (rows : List (ℕ × Option ℕ)) → All (λ (r : ℕ × Option ℕ). Contains (lids_of t) r.0 × IfSome r.1 (λ n. n < 16)) (row ∷ rows) → Contains (lids_of t) row.0 × IfSome row.1 (λ n. n < 16)
-    first row rows all = All-head (λ (r : ℕ × Option ℕ). Contains (lids_of t) r.0 × IfSome r.1 (λ n. n < 16)) row rows all
 
 orderly_lanes : (t : Topology) (f : Form) (s : State) (switch : ℕ) (lanes : List ℕ) (now_open : Block) → All (λ n. n < 16) lanes → MayBeOpen t f.count now_open → IsOpened (s.given ++ Map switch lanes ∷ []) now_open →
     IsOrderly t f s → IsOrderly t f (record { open_block = now_open; given = s.given ++ Map switch lanes ∷ [] })
@@ -215,17 +196,6 @@ module _ (t : Topology) (f : Form) (n : ℕ) (s : State) (h : IsOrderly t f s) w
   keeps_rows twice now_open [] k = k
   keeps_rows twice now_open (new ∷ all) k = keeps_adds twice now_open new all k
 
-  keeps_short_table : (switch : SwitchId) (row : Option (ℕ × ℕ)) → s.open_block ≡ Table (Some switch) → IfSome row (λ r. r.1 < 256) → Keeps t f (short_table_row t n s switch.0 row)
-  keeps_short_table switch None is low = tt
-  keeps_short_table switch (Some row) is low = cond_both (is_in_use t row.0) (adds (TwiceRow n) s (Table (Some (switch_id switch.0))) (Port switch.0 row.0 row.1 ∷ [])) (Goes s) (Keeps t f)
-      (λ e. keeps_adds (TwiceRow n) (Table (Some (switch_id switch.0))) (Port switch.0 row.0 row.1) [] (orderly_port t f s.given switch row.0 row.1 low (opened_as t f s (Table (Some switch)) is h))) (λ e. h)
-
-  keeps_long_table : (switch : SwitchId) (rows : Option (List (ℕ × ℕ))) → s.open_block ≡ Table (Some switch) → IfSome rows (All (λ (r : ℕ × ℕ). Contains (lids_of t) r.0 × (r.1 < 256))) →
-      Keeps t f (long_table_row n s switch.0 rows)
-  keeps_long_table switch None is all = tt
-  keeps_long_table switch (Some rows) is all =
-      keeps_rows (TwiceRow n) (Table (Some (switch_id switch.0))) (ports_said switch.0 rows) (orderly_ports t f s.given switch rows all (opened_as t f s (Table (Some switch)) is h))
-
   keeps_strange : (row : Option (ℕ × ℕ)) → Keeps t f (strange_row n s row)
   keeps_strange None = tt
   keeps_strange (Some row) = h
@@ -237,16 +207,28 @@ module _ (t : Topology) (f : Form) (n : ℕ) (s : State) (h : IsOrderly t f s) w
       go None is some = absurd (false≢true some)
       go (Some place) is some = has_place (lids_of t) lid place is
 
-  keeps_short_level : (switch : SwitchId) (row : Option (ℕ × Option ℕ)) → s.open_block ≡ Levels switch → IfSome row (λ r. IfSome r.1 (λ k. k < 16)) → Keeps t f (short_level_row t n s switch.0 row)
-  keeps_short_level switch None is low = tt
-  keeps_short_level switch (Some row) is low = cond_both (is_in_use t row.0) (adds (TwiceRow n) s (Levels (switch_id switch.0)) (Level switch.0 row.0 row.1 ∷ [])) (Fails (BadLevelRow n)) (Keeps t f)
-      (λ e. keeps_adds (TwiceRow n) (Levels (switch_id switch.0)) (Level switch.0 row.0 row.1) [] (orderly_level t f s.given switch row.0 row.1 (in_use row.0 e) low (opened_as t f s (Levels switch) is h))) (λ e. tt)
+  -- rows of a block, of which one statement leaves it orderly
+  module _ {A : Type 0} (P : A → Type 0) (b : Block) (say : ℕ → A → Given) (is : s.open_block ≡ b)
+      (one : (given : List Given) (lid : ℕ) (value : A) → Contains (lids_of t) lid → P value → IsOrderly t f (record { open_block = b; given = given }) →
+      IsOrderly t f (record { open_block = b; given = given ++ say lid value ∷ [] })) where
+    keeps_short_row : (bad : PlanFault) (unused : Next) (row : Option (ℕ × A)) → Keeps t f unused → IfSome row (λ r. P r.1) → Keeps t f (short_row t bad unused n s b say row)
+    keeps_short_row bad unused None k low = tt
+    keeps_short_row bad unused (Some row) k low = cond_both (is_in_use t row.0) (adds (TwiceRow n) s b (say row.0 row.1 ∷ [])) unused (Keeps t f)
+        (λ e. keeps_adds (TwiceRow n) b (say row.0 row.1) [] (one s.given row.0 row.1 (in_use row.0 e) low (opened_as t f s b is h))) (λ e. k)
 
-  keeps_long_level : (switch : SwitchId) (rows : Option (List (ℕ × Option ℕ))) → s.open_block ≡ Levels switch → IfSome rows (All (λ (r : ℕ × Option ℕ). Contains (lids_of t) r.0 × IfSome r.1 (λ k. k < 16))) →
-      Keeps t f (long_level_row n s switch.0 rows)
-  keeps_long_level switch None is all = tt
-  keeps_long_level switch (Some rows) is all =
-      keeps_rows (TwiceRow n) (Levels (switch_id switch.0)) (levels_said switch.0 rows) (orderly_level_rows t f s.given switch rows all (opened_as t f s (Levels switch) is h))
+    abbrev Good : ℕ × A → Type 0
+    Good r = Contains (lids_of t) r.0 × P r.1
+
+    orderly_rows : (given : List Given) (rows : List (ℕ × A)) → All Good rows → IsOrderly t f (record { open_block = b; given = given }) → IsOrderly t f (record { open_block = b; given = given ++ said_of say rows })
+    orderly_rows given [] all k = subst (λ (g : List Given). IsOrderly t f (record { open_block = b; given = g })) (sym (append-nil given)) k
+    orderly_rows given (row ∷ rows) all k =
+        let first : Good row = All-head Good row rows all in
+        subst (λ (g : List Given). IsOrderly t f (record { open_block = b; given = g })) (append_assoc given (say row.0 row.1 ∷ []) (said_of say rows))
+        (orderly_rows (given ++ say row.0 row.1 ∷ []) rows (All-tail Good row rows all) (one given row.0 row.1 first.0 first.1 k))
+
+    keeps_values_row : (bad : PlanFault) (rows : Option (List (ℕ × A))) → IfSome rows (All Good) → Keeps t f (values_row bad n s b say rows)
+    keeps_values_row bad None all = tt
+    keeps_values_row bad (Some rows) all = keeps_rows (TwiceRow n) b (said_of say rows) (orderly_rows s.given rows all (opened_as t f s b is h))
 
   keeps_number : (new : Option Given) → s.open_block ≡ Numbers → IfSome new (NumberFits t) → Keeps t f (adds_number n s new)
   keeps_number None is fit = tt
@@ -256,13 +238,18 @@ module _ (t : Topology) (f : Form) (n : ℕ) (s : State) (h : IsOrderly t f s) w
   keeps_row line Nothing is = tt
   keeps_row line (Table None) is = keeps_strange (table_row (fields line))
   keeps_row line (Table (Some switch)) is =
+      let one : (given : List Given) (lid port : ℕ) → Contains (lids_of t) lid → port < 256 → IsOrderly t f (record { open_block = Table (Some switch); given = given }) →
+      IsOrderly t f (record { open_block = Table (Some switch); given = given ++ Port switch.0 lid port ∷ [] }) = λ given lid port there low k. orderly_port t f given switch lid port low k in
       cond_both (says_one_lid f.version) (short_table_row t n s switch.0 (table_row (fields line))) (long_table_row n s switch.0 (long_row (lids_of t) (dec 3 255) (fields line))) (Keeps t f)
-      (λ e. keeps_short_table switch (table_row (fields line)) is (port_row_is (fields line)))
-      (λ e. keeps_long_table switch (long_row (lids_of t) (dec 3 255) (fields line)) is (long_row_is (λ k. k < 256) (lids_of t) (dec 3 255) (fields line) port_is_low))
+      (λ e. keeps_short_row (λ k. k < 256) (Table (Some switch)) (Port switch.0) is one (BadRow n) (Goes s) (table_row (fields line)) h (port_row_is (fields line)))
+      (λ e. keeps_values_row (λ k. k < 256) (Table (Some switch)) (Port switch.0) is one (BadRow n) (long_row (lids_of t) (dec 3 255) (fields line)) (long_row_is (λ k. k < 256) (lids_of t) (dec 3 255) (fields line) port_is_low))
   keeps_row line (Levels switch) is =
+      let P : Option ℕ → Type 0 = λ level. IfSome level (λ k. k < 16) in
+      let one : (given : List Given) (lid : ℕ) (level : Option ℕ) → Contains (lids_of t) lid → IfSome level (λ k. k < 16) → IsOrderly t f (record { open_block = Levels switch; given = given }) →
+      IsOrderly t f (record { open_block = Levels switch; given = given ++ Level switch.0 lid level ∷ [] }) = λ given lid level there low k. orderly_level t f given switch lid level there low k in
       cond_both (says_one_lid f.version) (short_level_row t n s switch.0 (level_row (fields line))) (long_level_row n s switch.0 (long_row (lids_of t) level_field (fields line))) (Keeps t f)
-      (λ e. keeps_short_level switch (level_row (fields line)) is (level_row_is (fields line)))
-      (λ e. keeps_long_level switch (long_row (lids_of t) level_field (fields line)) is (long_row_is (λ o. IfSome o (λ k. k < 16)) (lids_of t) level_field (fields line) level_is_low))
+      (λ e. keeps_short_row P (Levels switch) (Level switch.0) is one (BadLevelRow n) (Fails (BadLevelRow n)) (level_row (fields line)) tt (level_row_is (fields line)))
+      (λ e. keeps_values_row P (Levels switch) (Level switch.0) is one (BadLevelRow n) (long_row (lids_of t) level_field (fields line)) (long_row_is P (lids_of t) level_field (fields line) level_is_low))
   keeps_row line (MapRow switch) is = tt
   keeps_row line (Pairs switch) is = tt
   keeps_row line Numbers is = keeps_number (number_row t (fields line)) is (number_row_is t (fields line))

@@ -22,13 +22,26 @@ use Rattle.fab_dump.specs.Standing.{Stands, SaysStep}
 use Rattle.fab_dump.proofs.Orderly.{still_orderly}
 
 -- what stands for the lines so far, and what the others make of it
-pub record Reads (t : Topology) (f : Form) (text : List ℕ) (from line : ℕ) (r : PlanReader) (wanted : Result Plan PlanFault) : Type 0 where
+pub record Reads (f : Form) (text : List ℕ) (from line : ℕ) (r : PlanReader) (wanted : Result Plan PlanFault) : Type 0 where
   pub read : State
-  pub stands : Stands t f read r
-  pub orderly : IsOrderly t f read
-  pub left : read_lines t f (line + 1) read (lines (drop from text)) ≡ wanted
+  pub stands : Stands r.fabric.now f read r
+  pub orderly : IsOrderly r.fabric.now f read
+  pub left : read_lines r.fabric.now f (line + 1) read (lines (drop from text)) ≡ wanted
 
-module _ (t : Topology) (f : Form) (text : List ℕ) (from line : ℕ) (r : PlanReader) (wanted : Result Plan PlanFault) (before : Reads t f text from line r wanted) where
+-- nothing was read behind the place yet
+pub at_start : (t : Topology) (f : Form) (text : List ℕ) (from line : ℕ) (r : PlanReader) (s : State) → Stands t f s r → IsOrderly t f s →
+    Reads f text from line r (read_lines t f (line + 1) s (lines (drop from text)))
+at_start t f text from line r s stands orderly = record {
+  read = s;
+  stands = subst (λ (x : Topology). Stands x f s r) (sym stands.same) stands;
+  orderly = subst (λ (x : Topology). IsOrderly x f s) (sym stands.same) orderly;
+  left = ap (λ (x : Topology). read_lines x f (line + 1) s (lines (drop from text))) stands.same;
+}
+
+module _ (f : Form) (text : List ℕ) (from line : ℕ) (r : PlanReader) (wanted : Result Plan PlanFault) (before : Reads f text from line r wanted) where
+  abbrev t : Topology
+  t = r.fabric.now
+
   module _ (found : Line) (met : Some found ≡ line_at text from) where
     abbrev bytes : List ℕ
     bytes = slice_range text found.start found.end
@@ -44,14 +57,15 @@ module _ (t : Topology) (f : Form) (text : List ℕ) (from line : ℕ) (r : Plan
     answered : (next : PlanReader) (answer known : Step) → answer ≡ known → SaysStep t f before.read next (Ok answer) says → SaysStep t f before.read next (Ok known) says
     answered next answer known is h = subst (λ (x : Step). SaysStep t f before.read next (Ok x) says) is h
 
-    pub went_on : (next : PlanReader) (answer : Step) → answer ≡ answers.Goes → SaysStep t f before.read next (Ok answer) says → Reads t f text found.next (line + 1) next wanted
+    pub went_on : (next : PlanReader) (answer : Step) → answer ≡ answers.Goes → SaysStep t f before.read next (Ok answer) says → Reads f text found.next (line + 1) next wanted
     went_on next answer is h =
         let after : (now : State) × (says ≡ Goes now) × Stands t f now next = answered next answer answers.Goes is h in
+        let same : t ≡ next.fabric.now = sym after.2.same in
         record {
           read = after.0;
-          stands = after.2;
-          orderly = still_orderly t f (line + 1) before.read after.0 bytes before.stands.fits.fabric before.orderly after.1;
-          left = step (Goes after.0) after.1;
+          stands = subst (λ (x : Topology). Stands x f after.0 next) same after.2;
+          orderly = subst (λ (x : Topology). IsOrderly x f after.0) same (still_orderly t f (line + 1) before.read after.0 bytes before.stands.fits.fabric before.orderly after.1);
+          left = subst (λ (x : Topology). read_lines x f (line + 1 + 1) after.0 (lines (drop found.next text)) ≡ wanted) same (step (Goes after.0) after.1);
         }
 
     pub ended : (next : PlanReader) (answer : Step) → answer ≡ answers.Ends → SaysStep t f before.read next (Ok answer) says → wanted ≡ Ok next.plan

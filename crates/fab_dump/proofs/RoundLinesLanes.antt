@@ -22,8 +22,8 @@ use Rattle.fab_tables.proofs.Ascending.{lids_are}
 use Rattle.fab_dump.specs.declared.fault.PlanFault.TheVariants.{BadRow, TwiceBlock, TwiceRow, BadLevelRow, BadLaneRow}
 use Rattle.fab_dump.specs.declared.form.Block.TheVariants.{Levels, MapRow, Pairs, Numbers}
 use Rattle.fab_dump.specs.declared.line_kind.LineKind.TheVariants.{Row, LevelsHead, MapHead, CertificateHead, PairLine, EndPlan, Other}
-use Rattle.fab_dump.specs.Given.{levels_said}
-use Rattle.fab_dump.specs.Given.Given.{LevelBlock, MapBlock, Map, Certificate, Number}
+use Rattle.fab_dump.specs.Given.{said_of}
+use Rattle.fab_dump.specs.Given.Given.{LevelBlock, Level, MapBlock, Map, Certificate, Number}
 use Rattle.fab_dump.specs.Lines.{Form, State, Next, adds, goes, opens, a_source, head_guid, adds_pair, adds_number, after_map_row, line_says, kind_of, levels_head, map_head, level_field, level_or_none, long_level_row, lanes_read, map_row, pair_of, pair_row, pair_in, channel_named, positive, numbered, number_row}
 use Rattle.fab_dump.specs.Lines.Next.{Ends, Fails}
 use Rattle.fab_dump.specs.Writing.{hex16, port3, two, guid_head_text, numbered_row, level2, row_of, general_map, lanes_text, pair_text, number_text}
@@ -71,7 +71,7 @@ level_word (Some n) = two_word n
 pub level_row_said : (t : Topology) (f : Form) (n : ℕ) (s : State) (l : LaneTables) (k i : ℕ) → IsFabric t → IsLong f.version → s.open_block ≡ Levels (switch_id k) →
     LanesFit t l → i * 64 < length (lids_of t) →
     line_says t f n s (numbered_row t (λ lid. level2 (level l k lid)) i)
-    ≡ adds (TwiceRow n) s (Levels (switch_id k)) (levels_said k (map (λ (lid : ℕ). (lid, level l k lid)) (row_of (lids_of t) i)))
+    ≡ adds (TwiceRow n) s (Levels (switch_id k)) (said_of (Level k) (map (λ (lid : ℕ). (lid, level l k lid)) (row_of (lids_of t) i)))
 level_row_said t f n s l k i fabric long block fits within =
     levels_says t f n s (numbered_row t (λ lid. level2 (level l k lid)) i) long k block (row_is_row (λ lid. level2 (level l k lid)) (row_of (lids_of t) i))
     ∙ ap (long_level_row n s k) (row_back (lids_of t) i (lids_are t fabric).ascending (lids_are t fabric).fit within level_field (λ lid. level2 (level l k lid)) (λ lid. level l k lid)

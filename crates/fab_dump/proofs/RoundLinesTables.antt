@@ -19,8 +19,8 @@ use Rattle.fab_tables.proofs.Ascending.{lids_are}
 use Rattle.fab_dump.specs.declared.fault.PlanFault.TheVariants.{TwiceBlock, TwiceRow}
 use Rattle.fab_dump.specs.declared.form.Block.TheVariants.{Table}
 use Rattle.fab_dump.specs.declared.line_kind.LineKind.TheVariants.{TableHead}
-use Rattle.fab_dump.specs.Given.{ports_said}
-use Rattle.fab_dump.specs.Given.Given.{TableBlock}
+use Rattle.fab_dump.specs.Given.{said_of}
+use Rattle.fab_dump.specs.Given.Given.{TableBlock, Port}
 use Rattle.fab_dump.specs.Lines.{Form, State, adds, line_says, kind_of, table_guid, table_head, table_of, long_table_row}
 use Rattle.fab_dump.specs.Writing.{hex4, hex16, lids_text, switch_text, table_head_text, numbered_row, port3, row_of}
 use Rattle.fab_dump.proofs.RoundLinesPlaces.{IsLong, WaitsForNone, kind_says, table_says}
@@ -147,7 +147,7 @@ port_back e k lid are =
 pub table_row_said : (t : Topology) (f : Form) (n : ℕ) (s : State) (e : Entries) (k i : ℕ) → IsFabric t → IsLong f.version → s.open_block ≡ Table (Some (switch_id k)) →
     EntriesFit t e → i * 64 < length (lids_of t) →
     line_says t f n s (numbered_row t (λ lid. port3 (entry e k lid)) i)
-    ≡ adds (TwiceRow n) s (Table (Some (switch_id k))) (ports_said k (map (λ (lid : ℕ). (lid, entry e k lid)) (row_of (lids_of t) i)))
+    ≡ adds (TwiceRow n) s (Table (Some (switch_id k))) (said_of (Port k) (map (λ (lid : ℕ). (lid, entry e k lid)) (row_of (lids_of t) i)))
 table_row_said t f n s e k i fabric long block fits within =
     table_says t f n s (numbered_row t (λ lid. port3 (entry e k lid)) i) long k block (row_is_row (λ lid. port3 (entry e k lid)) (row_of (lids_of t) i))
     ∙ ap (long_table_row n s k) (row_back (lids_of t) i (lids_are t fabric).ascending (lids_are t fabric).fit within (dec 3 255) (λ lid. port3 (entry e k lid)) (λ lid. entry e k lid) (λ lid. port_word (entry e k lid)) (λ lid. port_back e k lid fits.whole))

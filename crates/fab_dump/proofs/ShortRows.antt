@@ -2,28 +2,21 @@
 use Rattle.std.proofs.Common.{◌≡◌, ℕ, List, [], ◌∷◌, Some, None, Option, IfSome, sym, ◌∙◌, ap, subst}
 use Rattle.std.specs.Prelude.{is_some, if◌then◌else◌, Contains}
 use Rattle.std.proofs.lemmas.Option.{get_or_from_slice_get}
-use Rattle.fab_model.specs.Topology.{Topology, lids_of, switch_id}
+use Rattle.fab_model.specs.Topology.{Topology, lids_of}
 use Rattle.fab_tables.specs.Entries.{index_of}
 use Rattle.fab_tables.proofs.Cells.{index_found}
 use Rattle.fab_tables.specs.LaneTables.{LaneTables}
-use Rattle.fab_dump.specs.declared.fault.PlanFault.TheVariants.{TwiceRow, BadLevelRow}
-use Rattle.fab_dump.specs.declared.form.Block.TheVariants.{Table, Levels}
-use Rattle.fab_dump.specs.Given.Given.{Port, Level}
-use Rattle.fab_dump.specs.Lines.{State, short_table_row, short_level_row, adds}
-use Rattle.fab_dump.specs.Lines.Next.{Goes, Fails}
+use Rattle.fab_dump.specs.declared.fault.PlanFault.{PlanFault}
+use Rattle.fab_dump.specs.declared.fault.PlanFault.TheVariants.{TwiceRow}
+use Rattle.fab_dump.specs.declared.form.Block.{Block}
+use Rattle.fab_dump.specs.Given.{Given}
+use Rattle.fab_dump.specs.Lines.{State, Next, short_row, adds}
 use Rattle.fab_dump.specs.Standing.{LanesAreOver}
 
-pub port_in_use : (t : Topology) (n : ℕ) (s : State) (switch lid port place : ℕ) (row : Option (ℕ × ℕ)) → Some (lid, port) ≡ row → Some place ≡ index_of lid (lids_of t) →
-    short_table_row t n s switch row ≡ adds (TwiceRow n) s (Table (Some (switch_id switch))) (Port switch lid port ∷ [])
-port_in_use t n s switch lid port place row e found =
-    ap (short_table_row t n s switch) (sym e)
-    ∙ ap (λ (o : Option ℕ). if is_some o then adds (TwiceRow n) s (Table (Some (switch_id switch))) (Port switch lid port ∷ []) else Goes s) (sym found)
-
-pub level_in_use : (t : Topology) (n : ℕ) (s : State) (switch lid : ℕ) (level : Option ℕ) (place : ℕ) (row : Option (ℕ × Option ℕ)) → Some (lid, level) ≡ row → Some place ≡ index_of lid (lids_of t) →
-    short_level_row t n s switch row ≡ adds (TwiceRow n) s (Levels (switch_id switch)) (Level switch lid level ∷ [])
-level_in_use t n s switch lid level place row e found =
-    ap (short_level_row t n s switch) (sym e)
-    ∙ ap (λ (o : Option ℕ). if is_some o then adds (TwiceRow n) s (Levels (switch_id switch)) (Level switch lid level ∷ []) else Fails (BadLevelRow n)) (sym found)
+pub row_in_use : {A : Type 0} (t : Topology) (bad : PlanFault) (unused : Next) (n : ℕ) (s : State) (b : Block) (say : ℕ → A → Given) (lid : ℕ) (value : A) (place : ℕ) (row : Option (ℕ × A)) →
+    Some (lid, value) ≡ row → Some place ≡ index_of lid (lids_of t) → short_row t bad unused n s b say row ≡ adds (TwiceRow n) s b (say lid value ∷ [])
+row_in_use t bad unused n s b say lid value place row e found =
+    ap (short_row t bad unused n s b say) (sym e) ∙ ap (λ (o : Option ℕ). if is_some o then adds (TwiceRow n) s b (say lid value ∷ []) else unused) (sym found)
 
 -- a LID with a place is one of the list
 pub has_place : (lids : List ℕ) (lid place : ℕ) → index_of lid lids ≡ Some place → Contains lids lid

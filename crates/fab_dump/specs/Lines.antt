@@ -15,7 +15,7 @@ use Rattle.fab_dump.specs.declared.form.Block.{Block}
 use Rattle.fab_dump.specs.declared.form.Block.TheVariants.{Nothing, Table, Levels, MapRow, Pairs, Numbers}
 use Rattle.fab_dump.specs.declared.line_kind.LineKind.{LineKind}
 use Rattle.fab_dump.specs.declared.line_kind.LineKind.TheVariants.{Comment, TableHead, Row, LevelsHead, MapHead, CertificateHead, PairLine, EndPlan, Other}
-use Rattle.fab_dump.specs.Given.{Given, was_given, ports_said, levels_said}
+use Rattle.fab_dump.specs.Given.{Given, was_given, said_of}
 use Rattle.fab_dump.specs.Given.Given.{TableBlock, Port, LevelBlock, Level, MapBlock, Map, PairMap, Certificate, Number}
 
 -- the form of a text: its version, and the lane count where the plan has lanes
@@ -146,29 +146,33 @@ long_row lids read row = paired (row_lids lids row) (all_read read (drop 1 row))
 abbrev pub is_in_use : Topology → ℕ → Bool
 is_in_use t lid = is_some (index_of lid (lids_of t))
 
--- a short table row: one of a LID that isn't in use is passed over
+-- a row of one LID; one that isn't in use has an answer of its own
+abbrev pub short_row : {A : Type 0} → Topology → PlanFault → Next → ℕ → State → Block → (ℕ → A → Given) → Option (ℕ × A) → Next
+short_row t bad unused n s block say None = Fails bad
+short_row t bad unused n s block say (Some row) = if is_in_use t row.0 then adds (TwiceRow n) s block (say row.0 row.1 ∷ []) else unused
+
+-- a row of up to 64 LIDs
+abbrev pub values_row : {A : Type 0} → PlanFault → ℕ → State → Block → (ℕ → A → Given) → Option (List (ℕ × A)) → Next
+values_row bad n s block say None = Fails bad
+values_row bad n s block say (Some rows) = adds (TwiceRow n) s block (said_of say rows)
+
+-- in a table block a LID that isn't in use is passed over
 abbrev pub short_table_row : Topology → ℕ → State → ℕ → Option (ℕ × ℕ) → Next
-short_table_row t n s switch None = Fails (BadRow n)
-short_table_row t n s switch (Some row) =
-    if is_in_use t row.0 then adds (TwiceRow n) s (Table (Some (switch_id switch))) (Port switch row.0 row.1 ∷ []) else Goes s
+short_table_row t n s switch row = short_row t (BadRow n) (Goes s) n s (Table (Some (switch_id switch))) (Port switch) row
 
 abbrev pub long_table_row : ℕ → State → ℕ → Option (List (ℕ × ℕ)) → Next
-long_table_row n s switch None = Fails (BadRow n)
-long_table_row n s switch (Some rows) = adds (TwiceRow n) s (Table (Some (switch_id switch))) (ports_said switch rows)
+long_table_row n s switch rows = values_row (BadRow n) n s (Table (Some (switch_id switch))) (Port switch) rows
+
+abbrev pub short_level_row : Topology → ℕ → State → ℕ → Option (ℕ × Option ℕ) → Next
+short_level_row t n s switch row = short_row t (BadLevelRow n) (Fails (BadLevelRow n)) n s (Levels (switch_id switch)) (Level switch) row
+
+abbrev pub long_level_row : ℕ → State → ℕ → Option (List (ℕ × Option ℕ)) → Next
+long_level_row n s switch rows = values_row (BadLevelRow n) n s (Levels (switch_id switch)) (Level switch) rows
 
 -- a row of a block whose switch isn't in the fabric must have the form, and is passed over
 abbrev pub strange_row : ℕ → State → Option (ℕ × ℕ) → Next
 strange_row n s None = Fails (BadRow n)
 strange_row n s (Some row) = Goes s
-
-abbrev pub short_level_row : Topology → ℕ → State → ℕ → Option (ℕ × Option ℕ) → Next
-short_level_row t n s switch None = Fails (BadLevelRow n)
-short_level_row t n s switch (Some row) =
-    if is_in_use t row.0 then adds (TwiceRow n) s (Levels (switch_id switch)) (Level switch row.0 row.1 ∷ []) else Fails (BadLevelRow n)
-
-abbrev pub long_level_row : ℕ → State → ℕ → Option (List (ℕ × Option ℕ)) → Next
-long_level_row n s switch None = Fails (BadLevelRow n)
-long_level_row n s switch (Some rows) = adds (TwiceRow n) s (Levels (switch_id switch)) (levels_said switch rows)
 
 -- the channel that leaves the switch of this GUID by this port
 abbrev pub channel_named : Topology → Option ℕ → Option ℕ → Option ℕ

@@ -16,6 +16,7 @@ use Rattle.fab_dump.specs.Given.{Given, was_given, plan_given}
 use Rattle.fab_dump.specs.Given.Given.{TableBlock, Port, LevelBlock, Level, MapBlock, Certificate}
 use Rattle.fab_dump.specs.Lines.{Form, State, Next}
 use Rattle.fab_dump.specs.Lines.Next.{Goes, Ends, Fails}
+use Rattle.fab_dump.specs.Orderly.{IsOrderly}
 use Rattle.fab_dump.specs.Reading.{wants_memory}
 
 -- the open block is of a switch of the fabric, which has so many
@@ -51,20 +52,21 @@ pub record PlanIsOver (t : Topology) (p : Plan) : Type 0 where
   pub in_use : p.tables.in_use ≡ lids_of t
   pub lanes : IfSome p.lanes (LanesAreOver t)
 
--- the reader is one for the fabric
-pub record ReaderFits (t : Topology) (r : PlanReader) : Type 0 where
-  pub fabric : IsFabric t
-  pub block : IsWithin (length t.switches) r.block
-  pub plan : PlanIsOver t r.plan
-  pub lids : r.lids ≡ lids_of t
-  pub table_marks : length r.table_blocks.items ≡ length t.switches
-  pub level_marks : length r.level_blocks.items ≡ length t.switches
-  pub map_marks : length r.map_blocks.items ≡ length t.switches
-  pub row_marks : length r.rows.items ≡ length (lids_of t)
+-- the reader is one for its fabric
+pub record ReaderFits (r : PlanReader) : Type 0 where
+  pub fabric : IsFabric r.fabric.now
+  pub block : IsWithin (length r.fabric.now.switches) r.block
+  pub plan : PlanIsOver r.fabric.now r.plan
+  pub lids : r.lids ≡ lids_of r.fabric.now
+  pub table_marks : length r.table_blocks.items ≡ length r.fabric.now.switches
+  pub level_marks : length r.level_blocks.items ≡ length r.fabric.now.switches
+  pub map_marks : length r.map_blocks.items ≡ length r.fabric.now.switches
+  pub row_marks : length r.lids_read.items ≡ length (lids_of r.fabric.now)
 
 -- the reader stands for what was read
 pub record Stands (t : Topology) (f : Form) (s : State) (r : PlanReader) : Type 0 where
-  pub fits : ReaderFits t r
+  pub fits : ReaderFits r
+  pub same : r.fabric.now ≡ t
   pub version : r.version ≡ f.version
   pub block : r.block ≡ s.open_block
   pub plan : r.plan ≡ plan_given t f.count s.given
@@ -72,15 +74,24 @@ pub record Stands (t : Topology) (f : Form) (s : State) (r : PlanReader) : Type 
   pub levels : AreMarks (length t.switches) LevelBlock s.given r.level_blocks.items
   pub maps : AreMarks (length t.switches) MapBlock s.given r.map_blocks.items
   pub certificate : r.certificate ≡ was_given s.given Certificate
-  pub rows : MarkRows (lids_of t) s.open_block s.given r.rows.items
+  pub rows : MarkRows (lids_of t) s.open_block s.given r.lids_read.items
 
 -- a call that reads a line answers this
 abbrev pub Says : Topology → Form → PlanReader → Result (Unit {0}) PlanFault → Next → Type 0
 Says t f r (Ok done) next = (s : State) × (next ≡ Goes s) × Stands t f s r
 Says t f r (Err why) next = Unless (wants_memory why) (next ≡ Fails why)
 
+-- a call that reads a line answers so, whatever was read before it
+abbrev pub ReadsAs : PlanReader → PlanReader → Result (Unit {0}) PlanFault → (Topology → Form → State → Next) → Type 0
+ReadsAs old new result says = (f : Form) (s : State) → Stands old.fabric.now f s old → IsOrderly old.fabric.now f s →
+    Says old.fabric.now f new result (says old.fabric.now f s)
+
 -- the same of a line that may end the plan
 abbrev pub SaysStep : Topology → Form → State → PlanReader → Result Step PlanFault → Next → Type 0
 SaysStep t f s r (Ok step.Goes) next = (now : State) × (next ≡ Goes now) × Stands t f now r
 SaysStep t f s r (Ok step.Ends) next = (next ≡ Ends) × Stands t f s r
 SaysStep t f s r (Err why) next = Unless (wants_memory why) (next ≡ Fails why)
+
+abbrev pub ReadsStepAs : PlanReader → PlanReader → Result Step PlanFault → (Topology → Form → State → Next) → Type 0
+ReadsStepAs old new result says = (f : Form) (s : State) → Stands old.fabric.now f s old → IsOrderly old.fabric.now f s →
+    SaysStep old.fabric.now f s new result (says old.fabric.now f s)

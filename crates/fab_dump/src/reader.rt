@@ -1,11 +1,15 @@
+//! The reader of a plan text, line by line: what was read so far, and what one more line says.
+//!
+//! It stands for the statements of the lines so far (`Stands` in `specs/Standing.antt`): the plan that they
+//! make, the block that is open, and marks of the switches and LIDs that they speak of, so that nothing is
+//! said twice. It takes the plan, three marks for each switch and one for each LID in use.
 ghost use Rattle.std.specs.Prelude.{◌≡◌, ◌<◌, ◌≤◌, ℕ, length, IfOk, IfSome, MatchResult, None, Some, Ok, Err};
 ghost use Rattle.fab_text.specs.Fields.{fields};
 ghost use Rattle.fab_model.specs.WellFormed.{IsFabric};
 ghost use Rattle.fab_dump.specs.Given.{empty_plan};
-ghost use Rattle.fab_dump.specs.Lines.{Form, State, row_in, strange_row, table_row, dump_line, plan_line, waiting_line, line_says, kind_of};
+ghost use Rattle.fab_dump.specs.Lines.{row_in, strange_row, table_row, dump_line, plan_line, waiting_line, line_says, kind_of};
 ghost use Rattle.fab_dump.specs.Reading.{nothing_read};
-ghost use Rattle.fab_dump.specs.Orderly.{IsOrderly};
-ghost use Rattle.fab_dump.specs.Standing.{ReaderFits, Stands, Says, SaysStep};
+ghost use Rattle.fab_dump.specs.Standing.{ReaderFits, Stands, ReadsAs, ReadsStepAs};
 
 use crate::PlanFault;
 use crate::form::{Block, Step, Version};
@@ -17,7 +21,8 @@ use std::alloc::{AllocError, Global};
 
 /// What was read of a text so far.
 #[derive(Drop)]
-pub(crate) struct PlanReader {
+pub(crate) struct PlanReader<'f> {
+    pub(crate) fabric: &'f Fabric,
     pub(crate) version: Version,
     pub(crate) plan: Plan,
     pub(crate) block: Block,
@@ -28,8 +33,8 @@ pub(crate) struct PlanReader {
     pub(crate) map_blocks: Vec<bool>,
     // the certificate was opened
     pub(crate) certificate: bool,
-    // the LIDs in use, by their places, of which a row of the open block was read
-    pub(crate) rows: Vec<bool>,
+    // by the places of the LIDs in use: whether a row of the open block told of the LID
+    pub(crate) lids_read: Vec<bool>,
 }
 
 /// The text goes on behind the line that was read.
@@ -56,14 +61,14 @@ fn empty_plan(alloc: Global, fabric: &Fabric, count: Option<u8>) -> Result<Plan,
     })
 }
 
-impl PlanReader {
+impl<'f> PlanReader<'f> {
     /// Nothing was read yet.
     pub(crate) fn new(
         alloc: Global,
-        fabric: &Fabric,
+        fabric: &'f Fabric,
         version: Version,
         count: Option<u8>,
-    ) -> Result<PlanReader, AllocError>
+    ) -> Result<PlanReader<'f>, AllocError>
         requires { IfSome count (λ n. (0 < n) × (n ≤ 15)) }
         ensures stands { IfOk result (Stands fabric.now (record { version = version; count = count }) nothing_read) }
     {
@@ -71,6 +76,7 @@ impl PlanReader {
         let switches = fabric.switches() as usize;
         let places = lids.len();
         Ok(PlanReader {
+            fabric,
             version,
             plan: empty_plan(alloc, fabric, count)?,
             block: Block::Nothing,
@@ -79,30 +85,29 @@ impl PlanReader {
             level_blocks: vec![in alloc; false; switches]?,
             map_blocks: vec![in alloc; false; switches]?,
             certificate: false,
-            rows: vec![in alloc; false; places]?,
+            lids_read: vec![in alloc; false; places]?,
         })
     }
 
     /// The plan that was said so far.
     pub(crate) fn into_plan(self) -> Plan
-        ensures { result ≡ self.plan }
+        ensures { result ≡ self.entry.plan }
     {
         self.plan
     }
 
     /// Reads a line that begins as a row does.
-    fn row(&mut self, fabric: &Fabric, line: u32, bytes: &[u8]) -> Result<(), PlanFault>
-        requires fits { ReaderFits fabric.now self.old }
-        ensures { (f : Form) (s : State) → Stands fabric.now f s self.old → IsOrderly fabric.now f s → Says fabric.now f self.new result
-            (row_in fabric.now f line s s.open_block bytes.now) }
+    fn row(&mut self, line: u32, bytes: &[u8]) -> Result<(), PlanFault>
+        requires fits { ReaderFits self.old }
+        ensures { ReadsAs self.old self.new result (λ t f s. row_in t f line s s.open_block bytes.now) }
     {
         let one_lid = self.version.says_one_lid();
         match self.block {
             Block::Table(Some(switch)) => {
                 if one_lid {
-                    self.short_table_row(fabric, line, switch, bytes)
+                    self.short_table_row(line, switch, bytes)
                 } else {
-                    self.long_table_row(fabric, line, switch, bytes)
+                    self.long_table_row(line, switch, bytes)
                 }
             }
             Block::Table(None) => match table_row(bytes) {
@@ -111,84 +116,69 @@ impl PlanReader {
             },
             Block::Levels(switch) => {
                 if one_lid {
-                    self.short_level_row(fabric, line, switch, bytes)
+                    self.short_level_row(line, switch, bytes)
                 } else {
-                    self.long_level_row(fabric, line, switch, bytes)
+                    self.long_level_row(line, switch, bytes)
                 }
             }
-            Block::Numbers => self.number_row(fabric, line, bytes),
+            Block::Numbers => self.number_row(line, bytes),
             Block::Nothing | Block::MapRow(_) | Block::Pairs(_) => Err(PlanFault::BadRow { line }),
         }
     }
 
     /// Reads a line of a plain dump.
-    fn dump_line(&mut self, fabric: &Fabric, line: u32, bytes: &[u8]) -> Result<(), PlanFault>
-        requires fits { ReaderFits fabric.now self.old }
-        ensures { (f : Form) (s : State) → Stands fabric.now f s self.old → IsOrderly fabric.now f s → Says fabric.now f self.new result
-            (dump_line fabric.now f line s bytes.now (kind_of bytes.now)) }
+    fn dump_line(&mut self, line: u32, bytes: &[u8]) -> Result<(), PlanFault>
+        requires fits { ReaderFits self.old }
+        ensures { ReadsAs self.old self.new result (λ t f s. dump_line t f line s bytes.now (kind_of bytes.now)) }
     {
         match kind_of(bytes) {
-            LineKind::TableHead => self.table_head(fabric, line, bytes),
-            LineKind::Row => self.row(fabric, line, bytes),
+            LineKind::TableHead => self.table_head(line, bytes),
+            LineKind::Row => self.row(line, bytes),
             _ => Ok(()),
         }
     }
 
     /// Reads a line of a plan where no lane map waits for its row.
-    fn plan_line(&mut self, fabric: &Fabric, line: u32, bytes: &[u8]) -> Result<Step, PlanFault>
-        requires fits { ReaderFits fabric.now self.old }
-        ensures { (f : Form) (s : State) → Stands fabric.now f s self.old → IsOrderly fabric.now f s → SaysStep fabric.now f s self.new result
-            (plan_line fabric.now f line s bytes.now (kind_of bytes.now)) }
+    fn plan_line(&mut self, line: u32, bytes: &[u8]) -> Result<Step, PlanFault>
+        requires fits { ReaderFits self.old }
+        ensures { ReadsStepAs self.old self.new result (λ t f s. plan_line t f line s bytes.now (kind_of bytes.now)) }
     {
         match kind_of(bytes) {
             LineKind::Comment => Ok(Step::Goes),
-            LineKind::TableHead => goes(self.table_head(fabric, line, bytes)),
-            LineKind::Row => goes(self.row(fabric, line, bytes)),
-            LineKind::LevelsHead => goes(self.levels_head(fabric, line, bytes)),
-            LineKind::MapHead => goes(self.map_head(fabric, line, bytes)),
-            LineKind::CertificateHead => goes(self.certificate_head(fabric, line)),
-            LineKind::PairLine => goes(self.pair_line(fabric, line, bytes)),
+            LineKind::TableHead => goes(self.table_head(line, bytes)),
+            LineKind::Row => goes(self.row(line, bytes)),
+            LineKind::LevelsHead => goes(self.levels_head(line, bytes)),
+            LineKind::MapHead => goes(self.map_head(line, bytes)),
+            LineKind::CertificateHead => goes(self.certificate_head(line)),
+            LineKind::PairLine => goes(self.pair_line(line, bytes)),
             LineKind::EndPlan => Ok(Step::Ends),
             LineKind::Other => Err(PlanFault::BadRow { line }),
         }
     }
 
     /// Reads a line where a lane map waits for its row.
-    fn waiting_line(
-        &mut self,
-        fabric: &Fabric,
-        line: u32,
-        switch: SwitchId,
-        bytes: &[u8],
-    ) -> Result<(), PlanFault>
-        requires fits { ReaderFits fabric.now self.old }
+    fn waiting_line(&mut self, line: u32, switch: SwitchId, bytes: &[u8]) -> Result<(), PlanFault>
+        requires fits { ReaderFits self.old }
         requires block { self.old.block ≡ Block.MapRow switch }
-        ensures { (f : Form) (s : State) → Stands fabric.now f s self.old → IsOrderly fabric.now f s → Says fabric.now f self.new result
-            (waiting_line f line s switch.0 bytes.now (kind_of bytes.now)) }
+        ensures { ReadsAs self.old self.new result (λ _ f s. waiting_line f line s switch.0 bytes.now (kind_of bytes.now)) }
     {
         match kind_of(bytes) {
             LineKind::Comment => Ok(()),
-            _ => self.map_row(fabric, line, switch, bytes),
+            _ => self.map_row(line, switch, bytes),
         }
     }
 
     /// Reads a line.
-    pub(crate) fn line(
-        &mut self,
-        fabric: &Fabric,
-        line: u32,
-        bytes: &[u8],
-    ) -> Result<Step, PlanFault>
-        requires fits { ReaderFits fabric.now self.old }
-        ensures { (f : Form) (s : State) → Stands fabric.now f s self.old → IsOrderly fabric.now f s → SaysStep fabric.now f s self.new result
-            (line_says fabric.now f line s bytes.now) }
+    pub(crate) fn line(&mut self, line: u32, bytes: &[u8]) -> Result<Step, PlanFault>
+        requires fits { ReaderFits self.old }
+        ensures { ReadsStepAs self.old self.new result (λ t f s. line_says t f line s bytes.now) }
     {
         if self.version.is_dump() {
-            return goes(self.dump_line(fabric, line, bytes));
+            return goes(self.dump_line(line, bytes));
         }
         match self.block {
-            Block::MapRow(switch) => goes(self.waiting_line(fabric, line, switch, bytes)),
-            _ => self.plan_line(fabric, line, bytes),
+            Block::MapRow(switch) => goes(self.waiting_line(line, switch, bytes)),
+            _ => self.plan_line(line, bytes),
         }
     }
 }

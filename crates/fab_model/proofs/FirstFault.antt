@@ -21,7 +21,7 @@ unfolding first_fault
 first_fault_parts records = first_of-append (node_rows records) (link_rows records ++ lid_rows records) ∙ ap (option_or (first_of (node_rows records))) (first_of-append (link_rows records) (lid_rows records))
 
 -- what is found first, and what is found where there is nothing before
-pub found_first : (e : FabricFault) (first rest : Option FabricFault) → FindsFault (Err e) first → FindsFault (Err e) (option_or first rest)
+pub found_first : (e : FabricFault) (first rest : Option FabricFault) → FindsFault {X = Unit {0}} (Err e) first → FindsFault {X = Unit {0}} (Err e) (option_or first rest)
 found_first e first rest = elim (wants_memory e) as (λ free. Unless free (first ≡ Some e) → Unless free (option_or first rest ≡ Some e)) [
   | true ↦ λ told. tt
   | false ↦ λ told. ap (λ found. option_or found rest) told
@@ -34,7 +34,7 @@ found_rest result first rest none told = subst (λ found. FindsFault result (opt
 pub built_unless_found : (records : Records) (none : Unit {0}) → FindsFault (Ok none) (first_fault records) → built records ≡ Ok (topology_of records)
 built_unless_found records none told = ap (λ found. unless_faulty found (topology_of records)) told
 
-pub gives_found : (records : Records) (e : FabricFault) → FindsFault (Err e) (first_fault records) → Gives wants_memory (Err e) (built records)
+pub gives_found : (records : Records) (e : FabricFault) → FindsFault {X = Unit {0}} (Err e) (first_fault records) → Gives wants_memory (Err e) (built records)
 gives_found records e = elim (wants_memory e) as (λ free. Unless free (first_fault records ≡ Some e) → Unless free (built records ≡ Err e)) [
   | true ↦ λ told. tt
   | false ↦ λ told. ap (λ found. unless_faulty found (topology_of records)) told

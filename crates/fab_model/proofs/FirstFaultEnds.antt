@@ -1,15 +1,14 @@
--- Ends of cables by name: what kind of node has the end, and its GUID.
+-- Ends of cables: what kind of node has the end, its GUID and the port there.
 use Rattle.std.proofs.lemmas.Cmp.{nat_eq_equiv}
-use Rattle.std.proofs.Common.{true, false, ◌≡◌, Bool, List, refl, ap, nat_eq}
+use Rattle.std.proofs.Common.{true, false, ◌≡◌, Bool, List, refl, nat_eq}
 use Rattle.std.specs.Prelude.{◌&&◌}
 use Rattle.std.specs.Bool.{beq}
 use Rattle.std.specs.List.{list_any}
 use Rattle.fab_model.specs.declared.raw.NodeKind.{NodeKind}
 use Rattle.fab_model.specs.declared.raw.NodeKind.TheVariants.{Switch, Adapter}
-use Rattle.fab_model.specs.declared.raw.RawNode.{RawNode}
 use Rattle.fab_model.specs.Records.{Stated, is_switch, same_kind}
-use Rattle.fab_model.specs.Faults.{is_far_end, is_other_side}
-use Rattle.fab_model.specs.FirstFault.{same_name, ends_of, same_side}
+use Rattle.fab_model.specs.Faults.{is_other_side}
+use Rattle.fab_model.specs.FirstFault.{ends_of, same_side}
 use Rattle.fab_model.proofs.FirstFaultRepeats.{any-same}
 
 beq-kinds : (first second : NodeKind) → beq (is_switch first) (is_switch second) ≡ same_kind first second
@@ -17,9 +16,6 @@ beq-kinds Switch Switch = refl
 beq-kinds Switch Adapter = refl
 beq-kinds Adapter Switch = refl
 beq-kinds Adapter Adapter = refl
-
-pub any_far_end : (one : Stated) (nodes : List RawNode) → list_any (λ node. same_name (is_switch node.kind, node.guid) (is_switch one.link.far_kind, one.link.far_guid)) nodes ≡ list_any (is_far_end one) nodes
-any_far_end one nodes = any-same _ (is_far_end one) (λ node. ap (λ b. b && nat_eq node.guid one.link.far_guid) (beq-kinds node.kind one.link.far_kind)) nodes
 
 beq-kinds_back : (first second : NodeKind) → beq (is_switch first) (is_switch second) ≡ same_kind second first
 beq-kinds_back Switch Switch = refl

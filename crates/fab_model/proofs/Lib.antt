@@ -1,4 +1,6 @@
 pub mod Cables
+pub mod Channels
+pub mod FlatMaps
 pub mod Examples
 pub mod Finds
 pub mod Lids
@@ -39,6 +41,7 @@ pub mod BuildingLinks
 pub mod FirstFaultLines
 pub mod FirstFaultRepeats
 pub mod FirstFaultEnds
+pub mod FirstFaultGuids
 pub mod FirstFaultStated
 pub mod FirstFaultLids
 pub mod FirstFault

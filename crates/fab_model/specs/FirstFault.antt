@@ -1,5 +1,5 @@
 -- What the search for the first fault of raw records answers.
-use Rattle.std.specs.Prelude.{◌≡◌, ℕ, Bool, false, ◌&&◌, not, List, [], ◌∷◌, ◌++◌, length, count_by, Option, Some, None, Result, Ok, Err, min, nat_eq, nat_lt}
+use Rattle.std.specs.Prelude.{◌≡◌, ℕ, Bool, false, ◌&&◌, not, List, [], ◌∷◌, ◌++◌, length, count_by, Option, Some, None, Result, Ok, Err, min, nat_eq, nat_lt, ◌==◌, is_some}
 use Rattle.std.specs.List.{list_any}
 use Rattle.std.specs.Bool.{beq}
 use Rattle.std.specs.Fn.{Shared}
@@ -9,7 +9,9 @@ use Rattle.fab_model.specs.declared.raw.RawLink.{RawLink}
 use Rattle.fab_model.specs.declared.fault.FabricFault.{FabricFault}
 use Rattle.fab_model.specs.declared.fault.FabricFault.TheVariants as fault
 use Rattle.fab_model.specs.declared.first_fault.ends.End.{End}
-use Rattle.fab_model.specs.Records.{Records, Stated, is_switch}
+use Rattle.fab_model.specs.Records.{Records, Stated, is_switch, same_kind}
+use Rattle.indexmap.specs.IndexMap.{IndexMap, get}
+use Rattle.fab_model.specs.declared.raw.NodeKind.{NodeKind}
 use Rattle.fab_model.specs.Faults.{switch_limit, lid_limit, claims, node_lines, link_lines, claim_lines, repeats_guid, has_too_many_ports, is_off_its_node, repeats_port, has_unknown_end, joins_adapters, is_one_sided, has_lmc, is_bad_lid, repeats_lid, when, at_least_line}
 use Rattle.fab_model.specs.Built.{wants_memory}
 use Rattle.fab_text.specs.Readings.{Unless}
@@ -33,9 +35,15 @@ abbrev pub is_later : Option ℕ → ℕ → Bool
 is_later None line = false
 is_later (Some first) line = nat_lt first line
 
--- two names of nodes, which say of what kind a node is and its GUID, are the same
-abbrev pub same_name : Bool × ℕ → Bool × ℕ → Bool
-same_name first second = beq first.0 second.0 && nat_eq first.1 second.1
+-- a node that is found is of the kind
+abbrev pub is_of_kind : NodeKind → Option (Bor RawNode) → Bool
+is_of_kind kind None = false
+is_of_kind kind (Some node) = same_kind node.now.kind kind
+
+-- the map has a node of each GUID, and of its kind
+pub record AreByGuid {S : Type 0} (nodes : List RawNode) (by_guid : IndexMap ℕ (Bor RawNode) S) : Type 0 where
+  pub some : (guid : ℕ) → is_some (get nat_eq by_guid guid) ≡ list_any (λ node. node.guid == guid) nodes
+  pub kinds : (kind : NodeKind) (guid : ℕ) → is_of_kind kind (get nat_eq by_guid guid) ≡ list_any (λ node. same_kind node.kind kind && node.guid == guid) nodes
 
 -- the end at which a link is stated, and the one that it names
 abbrev pub ends_of : Stated → End × End
@@ -73,6 +81,6 @@ lid_rows records =
     ∷ []
 
 -- a search answers that there is no fault or the one that there is, want of memory aside
-abbrev pub FindsFault : Result (Unit {0}) FabricFault → Option FabricFault → Type 0
-FindsFault (Ok none) wanted = wanted ≡ None
+abbrev pub FindsFault : {X : Type 0} → Result X FabricFault → Option FabricFault → Type 0
+FindsFault (Ok found) wanted = wanted ≡ None
 FindsFault (Err e) wanted = Unless (wants_memory e) (wanted ≡ Some e)

@@ -1,3 +1,5 @@
+//! A node's description, as the NodeDescription of InfiniBand's subnet management: at most 64 bytes, here none of
+//! them a line feed, since a text gives it on one line. It is kept in place, so none of its calls takes memory.
 ghost use Rattle.std.specs.Prelude.{◌≡◌, ◌≤◌, length};
 ghost use Rattle.fab_model.specs.Description.{IsDescription};
 
@@ -22,7 +24,7 @@ impl Model for Desc {
 }
 
 impl Desc {
-    /// The description of these bytes.
+    /// The description of these bytes. Time in their number.
     pub fn new(bytes: &[u8]) -> Desc
         requires { IsDescription bytes.now }
         ensures { result ≡ bytes.now }
@@ -33,7 +35,7 @@ impl Desc {
         Desc { bytes: all, count }
     }
 
-    /// Its bytes.
+    /// Its bytes. Constant time.
     pub fn bytes(&self) -> &[u8]
         ensures bytes { result.now ≡ self.now }
         ensures limits { IsDescription self.now }

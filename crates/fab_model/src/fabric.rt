@@ -1,3 +1,8 @@
+//! A fabric: a well-formed subnet, whose rows are numbered. Switches stand by GUID, channels by tail and out port,
+//! terminals by LID, so that equal subnets have equal rows, in whatever order a text states them. It is made once,
+//! from records or from rows, and does not change; what finds its rows is made with it.
+//!
+//! Memory: the rows, and 512 cells a switch for what is at its ports.
 ghost use Rattle.std.specs.Prelude.{◌≡◌, ◌+◌, ◌<◌, ◌≤◌, ◌^◌, ◌==◌, length, slice_get, position, Some, None, IfOk, map, option_map};
 ghost use Rattle.fab_text.specs.Readings.{Gives};
 ghost use Rattle.fab_model.specs.Topology.{Topology, switch_id, channel_id, terminal_id, lid_id, switch_of, channel_at, terminal_at, IsReverse, first_channel, is_source, lids_of, place_of};
@@ -21,7 +26,7 @@ use std::marker::Model;
 
 /// A well-formed subnet: switches, adapters, the channels between switches and the terminals. It is seen as
 /// these rows. Rows are found without going through them: a switch by its GUID in logarithmic time, all else in
-/// constant time.
+/// constant time. No call but those that make a fabric takes memory.
 #[derive(Drop)]
 pub struct Fabric {
     switches: Vec<SwitchRow>,
@@ -47,7 +52,8 @@ impl Model for Fabric {
 
 impl Fabric {
     /// The fabric of raw records, or their first fault: that of the first row of the table of faults that
-    /// holds, with the least line at which it does. `Memory` may come in place of any answer.
+    /// holds, with the least line at which it does. `Memory` may come in place of any answer. For n records it
+    /// takes O(n log n) time and O(n) memory, beside what `of_rows` takes.
     pub fn build(alloc: Global, raw: &Raw) -> Result<Fabric, FabricFault>
         ensures rows { Gives build.wants_memory result (build.built raw.now) }
         // Its rows, written out as raw records, make it again.
@@ -103,7 +109,7 @@ impl Fabric {
         })
     }
 
-    /// How many switches there are.
+    /// How many switches there are. Constant time.
     pub fn switches(&self) -> u32
         ensures count { result ≡ length self.now.switches }
         ensures kept { IsFabric self.now }
@@ -111,7 +117,7 @@ impl Fabric {
         self.switches.len() as u32
     }
 
-    /// How many terminals there are.
+    /// How many terminals there are. Constant time.
     pub fn terminals(&self) -> u32
         ensures count { result ≡ length self.now.terminals }
         ensures kept { IsFabric self.now }
@@ -119,7 +125,7 @@ impl Fabric {
         self.terminals.len() as u32
     }
 
-    /// How many adapters there are, those without a terminal included.
+    /// How many adapters there are, those without a terminal included. Constant time.
     pub fn adapters(&self) -> u32
         ensures count { result ≡ length self.now.adapters }
         ensures kept { IsFabric self.now }
@@ -127,7 +133,7 @@ impl Fabric {
         self.adapters.len() as u32
     }
 
-    /// The switch of a number.
+    /// The switch of a number. Constant time.
     pub fn switch(&self, s: SwitchId) -> &SwitchRow
         requires { s.0 < length self.now.switches }
         ensures { slice_get self.now.switches s.0 ≡ Some result.now }
@@ -135,7 +141,7 @@ impl Fabric {
         &self.switches[s.0 as usize]
     }
 
-    /// The channel of a number.
+    /// The channel of a number. Constant time.
     pub fn channel(&self, c: ChannelId) -> ChannelRow
         requires { c.0 < length self.now.channels }
         ensures { slice_get self.now.channels c.0 ≡ Some result }
@@ -143,7 +149,7 @@ impl Fabric {
         self.channels[c.0 as usize]
     }
 
-    /// The terminal of a number.
+    /// The terminal of a number. Constant time.
     pub fn terminal(&self, t: TerminalId) -> TerminalRow
         requires { t.0 < length self.now.terminals }
         ensures { slice_get self.now.terminals t.0 ≡ Some result }
@@ -151,7 +157,7 @@ impl Fabric {
         self.terminals[t.0 as usize]
     }
 
-    /// The adapter at a place of the list by ascending GUID.
+    /// The adapter at a place of the list by ascending GUID. Constant time.
     pub fn adapter(&self, index: u32) -> &AdapterRow
         requires { index < length self.now.adapters }
         ensures { slice_get self.now.adapters index ≡ Some result.now }
@@ -159,7 +165,7 @@ impl Fabric {
         &self.adapters[index as usize]
     }
 
-    /// The switch to which a channel leads.
+    /// The switch to which a channel leads. Constant time.
     pub fn tip(&self, c: ChannelId) -> SwitchId
         requires { c.0 < length self.now.channels }
         ensures { option_map (λ row. row.tip) (slice_get self.now.channels c.0) ≡ Some result }
@@ -167,7 +173,7 @@ impl Fabric {
         self.channels[c.0 as usize].tip
     }
 
-    /// How many channels there are, two for each cable between switches.
+    /// How many channels there are, two for each cable between switches. Constant time.
     pub fn channels(&self) -> u32
         ensures count { result ≡ length self.now.channels }
         ensures kept { IsFabric self.now }
@@ -175,7 +181,7 @@ impl Fabric {
         self.channels.len() as u32
     }
 
-    /// The channel that leaves a switch by a port; None exactly where none does.
+    /// The channel that leaves a switch by a port; None exactly where none does. Constant time.
     pub fn channel_at(&self, s: SwitchId, port: u8) -> Option<ChannelId>
         requires { s.0 < length self.now.switches }
         ensures { result ≡ option_map channel_id (channel_at self.now s.0 port) }
@@ -183,7 +189,7 @@ impl Fabric {
         self.indexes.channels_by_port[PORT_NUMBERS * s.0 as usize + port as usize]
     }
 
-    /// The terminal that is cabled to a switch's port; None exactly where none is.
+    /// The terminal that is cabled to a switch's port; None exactly where none is. Constant time.
     pub fn terminal_at(&self, s: SwitchId, port: u8) -> Option<TerminalId>
         requires { s.0 < length self.now.switches }
         ensures { result ≡ option_map terminal_id (terminal_at self.now s.0 port) }
@@ -191,7 +197,7 @@ impl Fabric {
         self.indexes.terminals_by_port[PORT_NUMBERS * s.0 as usize + port as usize]
     }
 
-    /// The switch that has a GUID; None exactly where none has it.
+    /// The switch that has a GUID; None exactly where none has it. Time in the logarithm of the switches.
     pub fn switch_of(&self, guid: u64) -> Option<SwitchId>
         ensures { result ≡ option_map switch_id (switch_of self.now guid) }
     {
@@ -201,7 +207,7 @@ impl Fabric {
         }
     }
 
-    /// The number of the first channel that leaves a switch, and the number past its last.
+    /// The number of the first channel that leaves a switch, and the number past its last. Constant time.
     pub fn leaves(&self, s: SwitchId) -> (u32, u32)
         requires { s.0 < length self.now.switches }
         ensures first { result.0 ≡ first_channel self.now s.0 }
@@ -216,14 +222,15 @@ impl Fabric {
         )
     }
 
-    /// The switch of a LID, and the port there that leads to it; None exactly where the LID is not in use.
+    /// The switch of a LID, and the port there that leads to it; None exactly where the LID is not in use. Constant
+    /// time.
     pub fn place_of(&self, lid: Lid) -> Option<Place>
         ensures { result ≡ place_of self.now lid.0 }
     {
         self.indexes.places_by_lid[lid.0 as usize]
     }
 
-    /// How many LIDs are in use: one for each switch and each terminal.
+    /// How many LIDs are in use: one for each switch and each terminal. Constant time.
     #[tactic(auto, using(crate::proofs::Order::lids_are_counted))]
     pub fn lids(&self) -> u32
         ensures count { result ≡ length (lids_of self.now) }
@@ -240,7 +247,7 @@ impl Fabric {
         &self.indexes.lids_in_use
     }
 
-    /// Whether a switch has a terminal.
+    /// Whether a switch has a terminal. Constant time.
     pub fn has_terminal(&self, s: SwitchId) -> bool
         requires { s.0 < length self.now.switches }
         ensures { result ≡ is_source self.now s.0 }
@@ -248,7 +255,7 @@ impl Fabric {
         self.indexes.sources_by_switch[s.0 as usize]
     }
 
-    /// The channel of the same cable the other way.
+    /// The channel of the same cable the other way. Constant time.
     pub fn reverse(&self, c: ChannelId) -> ChannelId
         requires { c.0 < length self.now.channels }
         ensures reverse { IsReverse self.now c.0 result.0 }
@@ -261,7 +268,7 @@ impl Fabric {
         }
     }
 
-    /// The LID at a place of the ascending list of those in use; None exactly at or past its end.
+    /// The LID at a place of the ascending list of those in use; None exactly at or past its end. Constant time.
     pub fn lid_at(&self, index: u32) -> Option<Lid>
         ensures { result ≡ option_map lid_id (slice_get (lids_of self.now) index) }
     {

@@ -1,9 +1,11 @@
-//! The first fault of raw records.
-ghost use Rattle.std.specs.Prelude.{◌≡◌, ◌≤◌, ◌++◌, length, count_by};
+//! The first fault of raw records. The faults are rows of a table, whose order is that of the search: nodes, links,
+//! LIDs; of one row the least line is told. For n records it takes O(n) time and memory, with hashing: one map from
+//! GUID to node serves the faults on GUIDs and on far ends, and sets and maps serve ports, sides of cables and LIDs.
+ghost use Rattle.std.specs.Prelude.{◌≡◌, ◌≤◌, ◌++◌, IfOk, length, count_by};
 ghost use Rattle.std.specs.List.{list_any};
 ghost use Rattle.fab_model.specs.Records.{is_switch};
 ghost use Rattle.fab_model.specs.Faults.{first_fault, first_of, least, node_lines, link_lines, has_too_many_ports, is_off_its_node, joins_adapters};
-ghost use Rattle.fab_model.specs.FirstFault.{FindsFault, node_rows, link_rows, lid_rows};
+ghost use Rattle.fab_model.specs.FirstFault.{FindsFault, AreByGuid, node_rows, link_rows, lid_rows};
 
 mod ends;
 mod lids;
@@ -14,8 +16,9 @@ mod tests;
 
 use crate::{FabricFault, NodeKind, Raw, RawNode};
 use ends::{one_sided, unknown_end};
+use indexmap::IndexMap;
 use lids::{lid_count, repeated_lid, with_bad_lid, with_lmc};
-use repeats::{repeated_guid, repeated_port};
+use repeats::{nodes_by_guid, repeated_port};
 use scans::{first_link, first_node, lesser};
 use std::alloc::Global;
 
@@ -32,13 +35,15 @@ const PORT_LIMIT: u32 = 254;
 pub(crate) fn find_fault(alloc: Global, raw: &Raw) -> Result<(), FabricFault>
     ensures { FindsFault result (first_fault raw.now) }
 {
-    find_node_fault(alloc, raw)?;
-    find_link_fault(alloc, raw)?;
+    let by_guid = find_node_fault(alloc, raw)?;
+    find_link_fault(alloc, raw, &by_guid)?;
     find_lid_fault(alloc, raw)
 }
 
-fn find_node_fault(alloc: Global, raw: &Raw) -> Result<(), FabricFault>
-    ensures { FindsFault result (first_of (node_rows raw.now)) }
+/// The first fault of the nodes. Where there is none, the nodes by GUID, in file order.
+fn find_node_fault(alloc: Global, raw: &Raw) -> Result<IndexMap<u64, &RawNode>, FabricFault>
+    ensures found { FindsFault result (first_of (node_rows raw.now)) }
+    ensures by_guid { IfOk result (λ by_guid. AreByGuid raw.now.nodes by_guid) }
 {
     let nodes = raw.nodes();
     if !has_switch(nodes) {
@@ -47,22 +52,26 @@ fn find_node_fault(alloc: Global, raw: &Raw) -> Result<(), FabricFault>
     if switch_count(nodes) > SWITCH_LIMIT {
         return Err(FabricFault::TooManySwitches);
     }
-    if let Some(line) = repeated_guid(alloc, raw).map_err(FabricFault::Memory)? {
-        return Err(FabricFault::TwiceGuid { line });
-    }
+    let by_guid = nodes_by_guid(alloc, raw)?;
     if let Some(line) = port_out_of_range(raw) {
         return Err(FabricFault::PortRange { line });
     }
-    Ok(())
+    Ok(by_guid)
 }
 
-fn find_link_fault(alloc: Global, raw: &Raw) -> Result<(), FabricFault>
+/// The first fault of the links.
+fn find_link_fault(
+    alloc: Global,
+    raw: &Raw,
+    by_guid: &IndexMap<u64, &RawNode>,
+) -> Result<(), FabricFault>
+    requires { AreByGuid raw.now.nodes by_guid.now }
     ensures { FindsFault result (first_of (link_rows raw.now)) }
 {
     if let Some(line) = repeated_port(alloc, raw).map_err(FabricFault::Memory)? {
         return Err(FabricFault::TwicePort { line });
     }
-    if let Some(line) = unknown_end(alloc, raw).map_err(FabricFault::Memory)? {
+    if let Some(line) = unknown_end(raw, by_guid) {
         return Err(FabricFault::UnknownEnd { line });
     }
     if let Some(line) = adapters_joined(raw) {
@@ -74,6 +83,7 @@ fn find_link_fault(alloc: Global, raw: &Raw) -> Result<(), FabricFault>
     Ok(())
 }
 
+/// The first fault of the LIDs.
 fn find_lid_fault(alloc: Global, raw: &Raw) -> Result<(), FabricFault>
     ensures { FindsFault result (first_of (lid_rows raw.now)) }
 {

@@ -1,4 +1,6 @@
-// Tables that find the rows of a fabric.
+//! Tables that find the rows of a fabric: by port, by switch and by LID. Each is filled in one pass over its rows,
+//! but for the first channels of switches, which are found by halving. Memory: 512 cells a switch, 65,536 for the
+//! LIDs.
 ghost use Rattle.std.specs.Prelude.{◌≡◌, ◌≢◌, ◌+◌, ◌*◌, ◌<◌, ◌≤◌, ◌^◌, [], All, AllPairs, length, filter, map, option_map, IfOk};
 ghost use Rattle.std.specs.List.{range_with_len};
 ghost use Rattle.fab_model.specs.Topology.{channel_id, terminal_id, channel_at, terminal_at, first_channel};

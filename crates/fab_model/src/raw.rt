@@ -1,3 +1,6 @@
+//! Raw records: nodes and the links under them, each with the line that states it, in the order of a text. They
+//! are what a reader of texts hands to the making of a fabric; nothing is judged here but the order. A record is
+//! added in constant time, and kept as it is.
 ghost use Rattle.std.specs.Prelude.{◌≡◌, ◌<◌, ◌++◌, [], ◌∷◌, length, OnOk, OnErr};
 ghost use Rattle.fab_model.specs.Records.{Records, AreRecords, last_line};
 
@@ -60,7 +63,7 @@ impl Model for Raw {
 }
 
 impl Raw {
-    /// No records.
+    /// No records. It takes no memory yet.
     pub fn new(alloc: Global) -> Raw
         ensures { result ≡ record { nodes = []; links = [] } }
     {
@@ -70,7 +73,8 @@ impl Raw {
         }
     }
 
-    /// Adds a node below all records. An error leaves them as they were.
+    /// Adds a node below all records. The error is want of memory, and leaves them as they were. Constant time,
+    /// but for when the list grows.
     pub fn push_node(&mut self, node: RawNode) -> Result<(), AllocError>
         requires { last_line self.old < node.line }
         ensures ok { OnOk result (self.new ≡ record self.old { nodes = self.old.nodes ++ node ∷ [] }) }
@@ -82,7 +86,8 @@ impl Raw {
         Ok(())
     }
 
-    /// Adds a link below all records, under a node that was added. An error leaves them as they were.
+    /// Adds a link below all records, under a node that was added. The error is want of memory, and leaves them
+    /// as they were. Constant time, but for when the list grows.
     pub fn push_link(&mut self, link: RawLink) -> Result<(), AllocError>
         requires line { last_line self.old < link.line }
         requires node { link.node < length self.old.nodes }
@@ -93,7 +98,7 @@ impl Raw {
         Ok(())
     }
 
-    /// The nodes, in file order.
+    /// The nodes, in file order. Constant time.
     pub fn nodes(&self) -> &[RawNode]
         ensures nodes { result.now ≡ self.now.nodes }
         ensures kept { AreRecords self.now }
@@ -101,7 +106,7 @@ impl Raw {
         &self.nodes
     }
 
-    /// The links, in file order.
+    /// The links, in file order. Constant time.
     pub fn links(&self) -> &[RawLink]
         ensures links { result.now ≡ self.now.links }
         ensures kept { AreRecords self.now }

@@ -1,3 +1,6 @@
+//! The rows of a fabric and the numbers that name them. The words are InfiniBand's: a switch and a channel adapter
+//! are nodes with a GUID, a LID is an address in the subnet. A channel is one way of a cable between switches, as
+//! in the networks of Dally and Seitz; a terminal is an adapter's port that has a LID.
 use crate::Desc;
 
 /// A switch by its number: switches are numbered from 0 by ascending GUID.

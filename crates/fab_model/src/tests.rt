@@ -1,54 +1,22 @@
-ghost use Rattle.std.specs.Prelude.{◌≡◌};
+//! Each call of a fabric once, and cables taken out.
 
+use crate::samples::{link, node};
 use crate::{
-    Cable, ChannelId, Desc, Fabric, Lid, NodeKind, Place, Raw, RawLink, RawNode, SwitchId,
-    TerminalId, WithoutFault,
+    Cable, ChannelId, Fabric, Lid, NodeKind, Place, Raw, SwitchId, TerminalId, WithoutFault,
 };
 use std::alloc::{AllocError, Global};
 use std::test::Fail;
 
-fn node(line: u32, kind: NodeKind, guid: u64, lid: u32) -> RawNode
-    ensures { result.line ≡ line }
-{
-    RawNode {
-        line,
-        kind,
-        guid,
-        ports: 4,
-        lid,
-        lmc: 0,
-        desc: Desc::new(b"node"),
-    }
-}
-
-fn link(line: u32, node: u32, port: u32, far: (NodeKind, u64, u32), lid: u32) -> RawLink
-    ensures line { result.line ≡ line }
-    ensures node { result.node ≡ node }
-{
-    let (far_kind, far_guid, far_port) = far;
-    RawLink {
-        line,
-        node,
-        port,
-        far_kind,
-        far_guid,
-        far_port,
-        port_guid: 0,
-        lid,
-        lmc: 0,
-    }
-}
-
 /// Two switches that a cable joins, and an adapter at the second port of the one of the lesser GUID.
 fn sample(alloc: Global) -> Result<Raw, AllocError> {
     let mut raw = Raw::new(alloc);
-    raw.push_node(node(1, NodeKind::Switch, 0x20, 7))?;
-    raw.push_link(link(2, 0, 3, (NodeKind::Switch, 0x10, 1), 0))?;
-    raw.push_node(node(4, NodeKind::Switch, 0x10, 3))?;
-    raw.push_link(link(5, 1, 1, (NodeKind::Switch, 0x20, 3), 0))?;
-    raw.push_link(link(6, 1, 2, (NodeKind::Adapter, 0x30, 1), 0))?;
-    raw.push_node(node(8, NodeKind::Adapter, 0x30, 0))?;
-    raw.push_link(link(9, 2, 1, (NodeKind::Switch, 0x10, 2), 5))?;
+    raw.push_node(node(1, NodeKind::Switch, 0x20, 4, 7, 0))?;
+    raw.push_link(link(2, 0, 3, (NodeKind::Switch, 0x10, 1), 0, 0))?;
+    raw.push_node(node(4, NodeKind::Switch, 0x10, 4, 3, 0))?;
+    raw.push_link(link(5, 1, 1, (NodeKind::Switch, 0x20, 3), 0, 0))?;
+    raw.push_link(link(6, 1, 2, (NodeKind::Adapter, 0x30, 1), 0, 0))?;
+    raw.push_node(node(8, NodeKind::Adapter, 0x30, 4, 0, 0))?;
+    raw.push_link(link(9, 2, 1, (NodeKind::Switch, 0x10, 2), 5, 0))?;
     Ok(raw)
 }
 
@@ -73,6 +41,7 @@ fn rows_are_found(rt: HostRuntime) -> Result<(), Fail> {
     assert_eq!(rt; fabric.channel_at(SwitchId(1), 3), Some(ChannelId(1)));
     assert_eq!(rt; fabric.channel_at(SwitchId(0), 2), None);
     assert_eq!(rt; fabric.terminal_at(SwitchId(0), 2), Some(TerminalId(0)));
+    assert_eq!(rt; fabric.lids_in_use(), [Lid(3), Lid(5), Lid(7)].as_slice());
     assert_eq!(rt; fabric.lid_at(1), Some(Lid(5)));
     assert_eq!(rt; fabric.lid_at(3), None);
     let at_adapter = Place {
@@ -104,11 +73,13 @@ fn a_cable_is_taken_out(rt: HostRuntime) -> Result<(), Fail> {
     let left = fabric.without(rt.alloc(), &ends)?;
     assert_eq!(rt; left.channels(), 0);
     assert_eq!(rt; left.lids(), 3);
-    let terminals = [Cable {
+    // the port of a terminal names no cable, and its place in the list is told
+    let [first, _] = ends;
+    let terminal = Cable {
         guid: 0x10,
         port: 2,
-    }];
-    let refused = fabric.without(rt.alloc(), &terminals);
-    assert!(rt; matches!(refused, Err(WithoutFault::UnknownCable { index: 0 })));
+    };
+    let refused = fabric.without(rt.alloc(), &[first, terminal]);
+    assert!(rt; matches!(refused, Err(WithoutFault::UnknownCable { index: 1 })));
     Ok(())
 }

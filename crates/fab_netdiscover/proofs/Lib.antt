@@ -1,4 +1,3 @@
-pub mod LineWords
 pub mod OneLine
 pub mod RecordsRead
 pub mod Quotes
@@ -7,7 +6,7 @@ pub mod OnAdapters
 pub mod Rows
 pub mod Ports
 pub mod NumberedRows
-pub mod Spelled
+pub mod ReadNumbers
 pub mod ReadParts
 pub mod ReadTails
 pub mod ReadHeads

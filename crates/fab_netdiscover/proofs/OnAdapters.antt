@@ -1,8 +1,9 @@
 -- Terminals found by adapter and port, one terminal after another.
-use Rattle.std.proofs.Common.{◌≡◌, ◌+◌, ◌<◌, ℕ, zero, suc, Bool, true, false, cond, ◌&&◌, List, [], ◌∷◌, ◌++◌, Option, Some, None, take, length, refl, sym, ap, ◌∙◌, arith, add-one}
+use Rattle.std.proofs.Common.{◌≡◌, ◌+◌, ℕ, zero, suc, Bool, true, false, cond, List, [], ◌∷◌, ◌++◌, Option, Some, None, take, refl, sym, ap, ◌∙◌, arith, add-one}
 use Rattle.std.specs.Prelude.{slice_get, find, is_some, ◌==◌}
 use Rattle.std.specs.Option.{option_or}
 use Rattle.std.specs.HashMap.{HashMap, get}
+use Rattle.std.proofs.lemmas.Bool.{and_parts}
 use Rattle.std.proofs.lemmas.List.Folds.{find-append}
 use Rattle.fab_model.specs.declared.rows.TerminalRow.{TerminalRow}
 use Rattle.fab_model.specs.Written.{is_on_adapter}
@@ -25,14 +26,10 @@ nothing : {X : Type 0} (found : Option X) {x : X} → is_some found ≡ false �
 nothing None e = refl
 nothing (Some y) e = cc
 
-both : (a b : Bool) → (a && b) ≡ true → (a ≡ true) × (b ≡ true)
-both true b e = (refl, e)
-both false b e = cc
-
 -- the key of a terminal that is at a port of an adapter
 same_key : (row : TerminalRow) (adapter port : ℕ) → is_on_adapter adapter port row ≡ true → (adapter ≡ row.adapter) × (port ≡ row.adapter_port)
 same_key row adapter port e =
-    let parts : (row.adapter == adapter ≡ true) × (row.adapter_port == port ≡ true) = both (row.adapter == adapter) (row.adapter_port == port) e in
+    let parts : (row.adapter == adapter ≡ true) × (row.adapter_port == port ≡ true) = and_parts (row.adapter == adapter) (row.adapter_port == port) e in
     (grind (arith, parts.0), grind (arith, parts.1))
 
 -- a port that was found before

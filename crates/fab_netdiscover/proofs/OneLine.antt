@@ -1,8 +1,8 @@
 -- No reader meets a line feed within a line.
-use Rattle.std.proofs.Common.{◌≡◌, ◌≢◌, ℕ, ◌+◌, ◌-◌, ◌<◌, ◌≤◌, Bool, true, false, cond, not, List, [], ◌∷◌, length, length-take, drop, take, refl, sym, subst, ap, ◌∙◌, arith, codes}
-use Rattle.std.specs.Prelude.{Result, Ok, Err, IfOk, All, ◌==◌, slice_index, slice_range, Option, Some, None}
+use Rattle.std.proofs.Common.{◌≡◌, ◌≢◌, ℕ, ◌-◌, Bool, true, false, cond, List, [], ◌∷◌, length, length-take, drop, take, refl, sym, subst, arith, codes}
+use Rattle.std.specs.Prelude.{Result, Ok, Err, IfOk, All, ◌==◌, slice_index, slice_range, Some}
 use Rattle.std.specs.List.{list_any, before_last, after_last, slice_split, onto_first}
-use Rattle.std.specs.Str.Lines.{lines, lines_of_parts, strip_carriage_return}
+use Rattle.std.specs.Str.Lines.{lines, lines_of_parts}
 use Rattle.std.proofs.lemmas.List.Elements.{All-take, All-drop, All-nil, All-cons, All-head, All-tail}
 use Rattle.std.proofs.lemmas.Result.{IfOk-at_ok}
 use Rattle.fab_text.specs.Bytes.{is_blank, is_quote, is_line_feed}
@@ -12,10 +12,9 @@ use Rattle.fab_text.specs.Fronts.{line_at}
 use Rattle.fab_text.proofs.LinesMet.{line_first}
 use Rattle.fab_model.specs.declared.raw.NodeKind.{NodeKind}
 use Rattle.fab_model.specs.Description.{HasNoLineFeed, IsDescription}
-use Rattle.fab_netdiscover.specs.declared.fault.LineFault.{LineFault}
 use Rattle.fab_netdiscover.specs.declared.fault.BadKind.{BadKind}
-use Rattle.fab_netdiscover.specs.Fronts.{Read, past_blanks, blanks, begins_with, exactly, number_at, number_from, guid_at, guid_from, name_kind_at, name_at, name_of, if_named, names, to_last_quote, in_quotes, description_at}
-use Rattle.fab_netdiscover.specs.Lines.{LineKind, SwitchHead, AdapterHead, RouterHead, PortLine, PassedOver, line_kind, kind_at, begins_with_word, node_front, description_or_none}
+use Rattle.fab_netdiscover.specs.Fronts.{Read, past_blanks, blanks, begins_with, exactly, number_at, guid_at, name_kind_at, name_at, name_of, to_last_quote, in_quotes, description_at}
+use Rattle.fab_netdiscover.specs.Lines.{LineKind, SwitchHead, AdapterHead, RouterHead, PortLine, PassedOver, line_kind, begins_with_word, node_front, description_or_none}
 
 abbrev IsInLine : ℕ → Type 0
 IsInLine byte = byte ≢ 10

@@ -1,10 +1,10 @@
 -- No text gives a cable from a switch to itself.
-use Rattle.std.proofs.Common.{◌≡◌, ◌≢◌, ◌<◌, ◌≤◌, ◌+◌, ◌-◌, ℕ, zero, suc, Bool, true, false, cond, not, ◌&&◌, ◌||◌, List, [], ◌∷◌, ◌++◌, map, filter, Option, Some, None, length, drop, get_or, refl, sym, subst, ap, ◌∙◌, arith}
+use Rattle.std.proofs.Common.{◌≡◌, ◌≢◌, ◌+◌, ◌-◌, ℕ, zero, suc, Bool, true, false, cond, not, ◌&&◌, ◌||◌, List, [], ◌∷◌, ◌++◌, map, filter, Option, Some, None, length, drop, get_or, refl, sym, subst, ap, ◌∙◌, arith}
 use Rattle.std.specs.Prelude.{Result, Ok, Err, IfOk, All, ◌==◌, slice_get, option_map, filter_map}
-use Rattle.std.specs.List.{list_any, cons_option, prefix_len, position_or_len}
+use Rattle.std.specs.List.{list_any, cons_option}
+use Rattle.std.proofs.lemmas.Bool.{and_parts}
 use Rattle.std.proofs.lemmas.List.Elements.{All-nil, All-cons, All-head, All-tail, All-push, All-weaker, All-map, All-filter, filter_passes}
 use Rattle.std.proofs.lemmas.List.Folds.{list_any_at}
-use Rattle.std.proofs.lemmas.List.Sums.{prefix_len_stops}
 use Rattle.std.proofs.lemmas.Option.{slice_get_within, get_or_from_slice_get}
 use Rattle.std.proofs.lemmas.Result.{IfOk-at_ok}
 use Rattle.fab_text.specs.Readings.{◌>>=◌}
@@ -18,7 +18,7 @@ use Rattle.fab_model.specs.declared.fault.FabricFault.{FabricFault}
 use Rattle.fab_model.specs.InOrder.{insert_in_order, in_order}
 use Rattle.fab_model.specs.Records.{Records, Stated, stated, is_switch}
 use Rattle.fab_model.specs.Topology.{Topology}
-use Rattle.fab_model.specs.Built.{by_guid, switch_rows, switch_number, by_tail, channel_row, channel_rows, topology_of, built, unless_faulty}
+use Rattle.fab_model.specs.Built.{by_guid, switch_rows, switch_number, by_tail, channel_row, channel_rows, topology_of, unless_faulty}
 use Rattle.fab_model.specs.Faults.{first_fault}
 use Rattle.fab_netdiscover.specs.declared.fault.LineFault.{LineFault}
 use Rattle.fab_netdiscover.specs.declared.fault.ReadFault.{ReadFault}
@@ -26,7 +26,7 @@ use Rattle.fab_netdiscover.specs.declared.lines.Cabled.{Cabled}
 use Rattle.fab_netdiscover.specs.declared.words.Address.{Address}
 use Rattle.fab_netdiscover.specs.Fronts.{Read, address_behind_mark}
 use Rattle.fab_netdiscover.specs.Lines.{LineKind, SwitchHead, AdapterHead, RouterHead, PortLine, PassedOver, line_kind, switch_head, adapter_head, cabled_at, link_of, link_under, is_own, port_line}
-use Rattle.fab_netdiscover.specs.Reading.{no_records, with_node, with_link, under_last, line_read, fault_on, on_line, lines_read, records_in}
+use Rattle.fab_netdiscover.specs.Reading.{no_records, with_node, with_link, under_last, line_read, on_line, lines_read, records_in}
 use Rattle.fab_netdiscover.specs.Laws.{HasNoOwnCable, MakeNoOwnCable, TextsHaveNoOwnCable}
 use Rattle.std.specs.Str.Lines.{lines}
 use Rattle.fab_text.specs.Fronts.{line_at}
@@ -234,18 +234,10 @@ IsApart row = row.tail.0 ≢ row.tip.0
 abbrev joins_switches : Stated → Bool
 joins_switches one = is_switch one.node.kind && is_switch one.link.far_kind
 
-and_first : (a b : Bool) → (a && b) ≡ true → a ≡ true
-and_first true b e = refl
-and_first false b e = cc
-
-and_second : (a b : Bool) → (a && b) ≡ true → b ≡ true
-and_second true b e = e
-and_second false b e = cc
-
 apart : (records : Records) (one : Stated) → IsKnown records.nodes one → joins_switches one ≡ true → IsApart (channel_row (switch_rows records) one)
 apart records one h e same =
-    let here : is_switch one.node.kind ≡ true = and_first _ _ e in
-    let there : is_switch one.link.far_kind ≡ true = and_second (is_switch one.node.kind) _ e in
+    let here : is_switch one.node.kind ≡ true = (and_parts (is_switch one.node.kind) (is_switch one.link.far_kind) e).0 in
+    let there : is_switch one.link.far_kind ≡ true = (and_parts (is_switch one.node.kind) (is_switch one.link.far_kind) e).1 in
     h.no_own here there (same_guid (switch_rows records) one.node.guid one.link.far_guid (has_row records one.node.guid (h.among here)) same)
 
 channels_apart : (records : Records) → HaveNoOwn records → All IsApart (channel_rows (switch_rows records) records)

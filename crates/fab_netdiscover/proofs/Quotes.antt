@@ -1,6 +1,6 @@
 -- The last quote of a line, by its place.
-use Rattle.std.proofs.Common.{◌≡◌, ◌≢◌, ◌<◌, ◌≤◌, ◌+◌, ◌-◌, ℕ, Bool, true, false, cond, not, ◌&&◌, ◌||◌, List, [], ◌∷◌, ◌++◌, Option, Some, None, length, min, drop, take, refl, sym, subst, ap, ◌∙◌, arith, codes}
-use Rattle.std.specs.Prelude.{Result, Ok, Err, ◌==◌, nat_eq, slice_range, slice_index}
+use Rattle.std.proofs.Common.{◌≡◌, ◌<◌, ◌≤◌, ◌+◌, ◌-◌, ℕ, Bool, true, false, cond, not, ◌&&◌, ◌||◌, List, [], ◌∷◌, Option, Some, None, length, min, drop, take, refl, sym, subst, ap, ◌∙◌, arith}
+use Rattle.std.specs.Prelude.{Ok, Err, nat_eq, slice_range}
 use Rattle.std.specs.List.{prefix_len, suffix_len, list_any, before_last, after_last}
 use Rattle.std.proofs.lemmas.Grind.{common_steps, reverse_onto}
 use Rattle.std.proofs.lemmas.List.{length-reverse, take_min}

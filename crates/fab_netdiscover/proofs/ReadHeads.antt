@@ -1,25 +1,26 @@
 -- Written heads, read again.
-use Rattle.std.proofs.Common.{◌≡◌, ◌≢◌, ◌<◌, ◌≤◌, ◌+◌, ◌-◌, ◌^◌, ℕ, zero, suc, Bool, true, false, cond, ◌&&◌, ◌||◌, not, List, [], ◌∷◌, ◌++◌, length, drop, take, refl, sym, subst, ap, ◌∙◌, arith, codes}
-use Rattle.std.specs.Prelude.{Ok, Result, decimal, ◌==◌}
-use Rattle.std.specs.List.{concat, prefix_len, list_any, list_all}
-use Rattle.std.specs.Char.{is_digit}
-use Rattle.std.proofs.lemmas.List.{append_assoc, append-nil}
+use Rattle.std.proofs.Common.{◌≡◌, ◌<◌, ◌≤◌, ◌+◌, ◌^◌, ℕ, Bool, false, cond, List, [], ◌∷◌, ◌++◌, length, drop, refl, ap, ◌∙◌, arith, codes}
+use Rattle.std.specs.Prelude.{Ok, decimal}
+use Rattle.std.specs.List.{concat, prefix_len, list_any}
+use Rattle.std.proofs.lemmas.Bool.{or_from}
+use Rattle.std.proofs.lemmas.List.Elements.{All-head, All-tail}
+use Rattle.std.proofs.lemmas.List.{append_assoc}
 use Rattle.std.proofs.lemmas.List.Folds.{list_any-append}
 use Rattle.fab_text.specs.Bytes.{is_blank, is_quote}
+use Rattle.fab_text.proofs.Spelled.{Spells, IsHigh, decimal_spells, spelled_high}
+use Rattle.fab_text.proofs.Words.{high_byte}
 use Rattle.fab_model.specs.declared.raw.NodeKind.{NodeKind}
 use Rattle.fab_model.specs.declared.raw.NodeKind.TheVariants.{Switch, Adapter}
 use Rattle.fab_model.specs.declared.raw.RawNode.{RawNode}
 use Rattle.fab_model.specs.declared.rows.SwitchRow.{SwitchRow}
 use Rattle.fab_model.specs.declared.rows.AdapterRow.{AdapterRow}
-use Rattle.fab_netdiscover.specs.declared.fault.LineFault.{LineFault}
 use Rattle.fab_netdiscover.specs.declared.fault.BadKind.TheVariants as kinds
-use Rattle.fab_netdiscover.specs.declared.lines.NodeFront.{NodeFront}
 use Rattle.fab_netdiscover.specs.Fronts.{past_blanks}
-use Rattle.fab_netdiscover.specs.Lines.{LineKind, SwitchHead, AdapterHead, line_kind, node_front, switch_head, adapter_head}
-use Rattle.fab_netdiscover.specs.Writing.{name_text, in_quotes, address_text, word_of, head_text, switch_head_text, adapter_head_text}
-use Rattle.fab_netdiscover.proofs.Spelled.{Spells, number_read, decimal_spells}
+use Rattle.fab_netdiscover.specs.Lines.{node_front, switch_head, adapter_head}
+use Rattle.fab_netdiscover.specs.Writing.{name_text, in_quotes, address_text}
+use Rattle.fab_netdiscover.proofs.ReadNumbers.{number_read}
 use Rattle.fab_netdiscover.proofs.ReadParts.{own_name_read}
-use Rattle.fab_netdiscover.proofs.ReadTails.{digit_byte, unblank, description_read, switch_address}
+use Rattle.fab_netdiscover.proofs.ReadTails.{description_read, switch_address}
 
 -- the pieces of a text, and what stands behind them
 abbrev pub onto : List (List ℕ) → List ℕ → List ℕ
@@ -30,30 +31,20 @@ pub concat-onto : (pieces : List (List ℕ)) (rest : List ℕ) → concat pieces
 concat-onto [] rest = refl
 concat-onto (piece ∷ pieces) rest = append_assoc piece (concat pieces) rest ∙ ap (λ (behind : List ℕ). piece ++ behind) (concat-onto pieces rest)
 
-first_part : (a b : Bool) → (a && b) ≡ true → a ≡ true
-first_part true b e = refl
-first_part false b e = cc
-
-second_part : (a b : Bool) → (a && b) ≡ true → b ≡ true
-second_part true b e = e
-second_part false b e = cc
-
 no_quote : (byte : ℕ) → 48 ≤ byte → is_quote byte ≡ false
 no_quote byte h = grind arith
 
-no_quote_step : (a b : Bool) → a ≡ false → b ≡ false → (a || b) ≡ false
-no_quote_step true b e h = cc
-no_quote_step false b e h = h
-
 -- no blank stands before a number
-first_digit : (written rest : List ℕ) → 0 < length written → list_all (λ byte. is_digit byte 10) written ≡ true → prefix_len is_blank (written ++ rest) ≡ 0
-first_digit [] rest h e = absurd (omega (arith, h))
-first_digit (digit ∷ written) rest h e = ap (λ (blank : Bool). cond blank (1 + prefix_len is_blank (written ++ rest)) 0) (unblank digit (digit_byte 10 digit (omega arith) (first_part (is_digit digit 10) _ e)))
+first_digit : (written rest : List ℕ) → 0 < length written → IsHigh written → prefix_len is_blank (written ++ rest) ≡ 0
+first_digit [] rest some h = absurd (omega (arith, some))
+first_digit (digit ∷ written) rest some h =
+    let low : 48 ≤ digit = All-head (λ byte. 48 ≤ byte) digit written h in
+    ap (λ (blank : Bool). cond blank (1 + prefix_len is_blank (written ++ rest)) 0) (high_byte digit (omega arith))
 
 number_stands : (number : ℕ) (rest : List ℕ) → number < 2 ^ 64 → past_blanks (9 ∷ (decimal number ++ rest)) ≡ decimal number ++ rest
 number_stands number rest h =
     let s : Spells 10 number (decimal number) = decimal_spells number h in
-    ap (λ (count : ℕ). drop (1 + count) (9 ∷ (decimal number ++ rest))) (first_digit (decimal number) rest s.some s.all)
+    ap (λ (count : ℕ). drop (1 + count) (9 ∷ (decimal number ++ rest))) (first_digit (decimal number) rest s.some (spelled_high 10 number (decimal number) (omega arith) s))
 
 name_stands : (kind : NodeKind) (guid : ℕ) (rest : List ℕ) → past_blanks (32 ∷ (name_text kind guid ++ rest)) ≡ name_text kind guid ++ rest
 unfolding name_text
@@ -81,16 +72,16 @@ adapter_node line row = record { line = line; kind = Adapter; guid = row.guid; p
 abbrev pub switch_rest : SwitchRow → List ℕ
 switch_rest row = front_text Switch row.ports row.guid (codes "\t\t# " ++ (in_quotes row.desc ++ (codes " base port 0 " ++ address_text row.lid.0)))
 
-no_quote_in_digits : (written : List ℕ) → list_all (λ byte. is_digit byte 10) written ≡ true → list_any is_quote written ≡ false
-no_quote_in_digits [] e = refl
-no_quote_in_digits (digit ∷ written) e =
-    no_quote_step (is_quote digit) (list_any is_quote written) (no_quote digit (digit_byte 10 digit (omega arith) (first_part (is_digit digit 10) _ e))) (no_quote_in_digits written (second_part (is_digit digit 10) _ e))
+no_quote_in_digits : (written : List ℕ) → IsHigh written → list_any is_quote written ≡ false
+no_quote_in_digits [] h = refl
+no_quote_in_digits (digit ∷ written) h =
+    or_from (is_quote digit) (list_any is_quote written) (no_quote digit (All-head (λ byte. 48 ≤ byte) digit written h)) (no_quote_in_digits written (All-tail (λ byte. 48 ≤ byte) digit written h))
 
 no_quote_in_address : (lid : ℕ) → lid < 2 ^ 64 → list_any is_quote (codes " base port 0 " ++ address_text lid) ≡ false
 unfolding address_text
 no_quote_in_address lid h =
     let s : Spells 10 lid (decimal lid) = decimal_spells lid h in
-    list_any-append is_quote (decimal lid) (codes " lmc 0") ∙ no_quote_step (list_any is_quote (decimal lid)) false (no_quote_in_digits (decimal lid) s.all) refl
+    list_any-append is_quote (decimal lid) (codes " lmc 0") ∙ or_from (list_any is_quote (decimal lid)) false (no_quote_in_digits (decimal lid) (spelled_high 10 lid (decimal lid) (omega arith) s)) refl
 
 pub switch_rest_read : (line : ℕ) (row : SwitchRow) → row.ports < 2 ^ 32 → row.guid < 2 ^ 64 → row.lid.0 < 2 ^ 32 → length row.desc ≤ 64 → switch_head line (switch_rest row) ≡ Ok (switch_node line row)
 unfolding switch_head

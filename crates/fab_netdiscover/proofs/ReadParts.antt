@@ -1,7 +1,8 @@
 -- Parts of written lines, read again.
-use Rattle.std.proofs.Common.{◌≡◌, ◌≢◌, ◌<◌, ◌≤◌, ◌+◌, ◌-◌, ◌^◌, ℕ, zero, suc, Bool, true, false, cond, ◌&&◌, ◌||◌, not, List, [], ◌∷◌, ◌++◌, length, drop, take, refl, sym, subst, ap, ◌∙◌, arith, codes}
-use Rattle.std.specs.Prelude.{Ok, decimal, nat_lt, ◌==◌, All}
-use Rattle.std.proofs.lemmas.List.{append_assoc, append-nil, length-append}
+use Rattle.std.proofs.Common.{◌≡◌, ◌<◌, ◌^◌, ℕ, Bool, true, false, cond, List, [], ◌∷◌, ◌++◌, refl, sym, ap, ◌∙◌, arith, codes}
+use Rattle.std.specs.Prelude.{Ok, decimal, ◌==◌}
+use Rattle.std.proofs.lemmas.List.{append_assoc}
+use Rattle.fab_text.proofs.Spelled.{decimal_spells, radix_spells}
 use Rattle.fab_model.specs.declared.raw.NodeKind.{NodeKind}
 use Rattle.fab_model.specs.declared.raw.NodeKind.TheVariants.{Switch, Adapter}
 use Rattle.fab_netdiscover.specs.declared.fault.BadKind.TheVariants as kinds
@@ -12,7 +13,7 @@ use Rattle.std.specs.Fmt.{radix_digits}
 use Rattle.fab_netdiscover.specs.Fronts.{past_blanks, port_at, name_at, name_of}
 use Rattle.fab_netdiscover.specs.Lines.{optional_parts, far_kind_of, cabled_at}
 use Rattle.fab_netdiscover.specs.Writing.{port_text, name_text, guid16, port_guid_text}
-use Rattle.fab_netdiscover.proofs.Spelled.{number_read, guid_read, decimal_spells, guid16_spells, length-guid16, radix_spells}
+use Rattle.fab_netdiscover.proofs.ReadNumbers.{number_read, guid_read, guid16_spells, length-guid16}
 
 pub port_read : (port : ℕ) (rest : List ℕ) → port < 2 ^ 32 → port_at (port_text port ++ rest) ≡ Ok (port, rest)
 unfolding port_at port_text

@@ -1,28 +1,22 @@
 -- Descriptions, LIDs and LMCs of written lines, read again.
-use Rattle.std.proofs.Common.{◌≡◌, ◌≢◌, ◌<◌, ◌≤◌, ◌+◌, ◌-◌, ◌^◌, ℕ, zero, suc, Bool, true, false, cond, ◌&&◌, ◌||◌, not, List, [], ◌∷◌, ◌++◌, length, drop, take, filter, refl, sym, subst, ap, ◌∙◌, arith, codes}
-use Rattle.std.specs.Prelude.{Ok, Err, Some, None, decimal, nat_lt, nat_eq, ◌==◌, All, position, ok_or}
-use Rattle.std.specs.List.{list_any, list_all, before_last, after_last, slice_split, position_or_len}
-use Rattle.std.specs.Char.{is_digit, digit_value}
-use Rattle.std.specs.Str.{bytes_eq}
-use Rattle.std.proofs.lemmas.Grind.{common_steps}
+use Rattle.std.proofs.Common.{◌≡◌, ◌<◌, ◌≤◌, ◌+◌, ◌^◌, ℕ, suc, Bool, true, false, cond, not, List, [], ◌∷◌, ◌++◌, length, drop, take, refl, sym, ap, ◌∙◌, arith, codes}
+use Rattle.std.specs.Prelude.{Ok, Err, Some, None, decimal, nat_lt, nat_eq, ◌==◌, position}
+use Rattle.std.specs.List.{list_any, before_last, after_last}
+use Rattle.std.proofs.lemmas.Bool.{or_parts, or_right}
 use Rattle.std.proofs.lemmas.List.{append_assoc, append-nil, length-append, take_all}
-use Rattle.std.proofs.lemmas.List.Splits.{slice_split_at}
-use Rattle.std.proofs.lemmas.List.Elements.{All-nil, All-cons}
-use Rattle.fab_text.specs.Bytes.{is_quote, is_blank}
-use Rattle.fab_text.specs.Readings.{◌>>=◌}
+use Rattle.fab_text.specs.Bytes.{is_quote}
+use Rattle.fab_text.specs.Fields.{words_of}
+use Rattle.fab_text.proofs.Spelled.{Spells, decimal_spells, spelled_high}
+use Rattle.fab_text.proofs.Words.{high_word, words_more}
 use Rattle.fab_netdiscover.specs.declared.fault.LineFault.TheVariants.{Bad}
 use Rattle.fab_netdiscover.specs.declared.fault.BadKind.TheVariants as kinds
 use Rattle.fab_netdiscover.specs.declared.words.Address.{Address}
-use Rattle.fab_netdiscover.specs.Fronts.{Read, number_at, to_last_quote, description_at, words_of, words_after, whole_number, first_number, address_in, address_behind_mark}
-use Rattle.fab_netdiscover.specs.Writing.{in_quotes, address_text, described}
+use Rattle.fab_netdiscover.specs.Fronts.{Read, number_at, to_last_quote, description_at, whole_number, address_in, address_behind_mark}
+use Rattle.fab_netdiscover.specs.Writing.{in_quotes, address_text}
 use Rattle.fab_netdiscover.proofs.Quotes.{behind, behind-cons}
-use Rattle.fab_netdiscover.proofs.Spelled.{Spells, number_read, decimal_spells}
+use Rattle.fab_netdiscover.proofs.ReadNumbers.{number_read}
 
 -- ---- up to the last quote
-
-or_parts : (a b : Bool) → (a || b) ≡ false → (a ≡ false) × (b ≡ false)
-or_parts true b e = cc
-or_parts false b e = (refl, e)
 
 none_step : (test : Bool) (size count : ℕ) → test ≡ false → count ≡ size → cond (nat_eq count size) (size + cond (not test) (1 + 0) 0) count ≡ size + 1
 none_step true size count e h = cc
@@ -47,13 +41,9 @@ quote_behind (byte ∷ desc) rest e =
     let less : behind (desc ++ 34 ∷ rest) < length (desc ++ 34 ∷ rest) = omega (arith, before, length-append desc (34 ∷ rest)) in
     behind-cons byte (desc ++ 34 ∷ rest) ∙ later_step (is_quote byte) (length (desc ++ 34 ∷ rest)) (behind (desc ++ 34 ∷ rest)) less ∙ before
 
-or_second : (a b : Bool) → b ≡ true → (a || b) ≡ true
-or_second true b e = refl
-or_second false b e = e
-
 some_quote : (desc rest : List ℕ) → list_any is_quote (desc ++ 34 ∷ rest) ≡ true
 some_quote [] rest = refl
-some_quote (byte ∷ desc) rest = or_second (is_quote byte) (list_any is_quote (desc ++ 34 ∷ rest)) (some_quote desc rest)
+some_quote (byte ∷ desc) rest = or_right (is_quote byte) (list_any is_quote (desc ++ 34 ∷ rest)) (some_quote desc rest)
 
 front_taken : (desc rest : List ℕ) → take (length desc) (desc ++ rest) ≡ desc
 front_taken [] rest = refl
@@ -85,38 +75,11 @@ description_read desc rest h e =
 
 -- ---- words
 
-pub digit_parts : (a b : Bool) → (a && b) ≡ true → (a ≡ true) × (b ≡ true)
-digit_parts true b e = (refl, e)
-digit_parts false b e = cc
-
-digit_by : (test : Bool) (base byte : ℕ) → nat_lt byte 48 ≡ test → base ≤ 16 → nat_lt (cond test 36 (cond (nat_lt byte 58) (byte - 48) (cond (nat_lt byte 65) 36 (cond (nat_lt byte 91) (byte - 55) (cond (nat_lt byte 97) 36 (cond (nat_lt byte 123) (byte - 87) 36)))))) base ≡ true → 48 ≤ byte
-digit_by true base byte e h k = absurd (grind (arith, h, k))
-digit_by false base byte e h k = grind (arith, e)
-
--- a digit is neither a blank nor a quote nor a line feed
-pub digit_byte : (base byte : ℕ) → base ≤ 16 → is_digit byte base ≡ true → 48 ≤ byte
-digit_byte base byte h e = digit_by (nat_lt byte 48) base byte refl h e
-
-pub unblank : (byte : ℕ) → 48 ≤ byte → is_blank byte ≡ false
-unblank byte h = grind arith
-
-abbrev without_empty : List (List ℕ) → List (List ℕ)
-without_empty = filter (λ word. not (length word == 0))
-
-digits_unblank : (written : List ℕ) → list_all (λ byte. is_digit byte 10) written ≡ true → All (λ byte. is_blank byte ≡ false) written
-digits_unblank [] e = All-nil _
-digits_unblank (digit ∷ written) e =
-    let parts : (is_digit digit 10 ≡ true) × (list_all (λ byte. is_digit byte 10) written ≡ true) = digit_parts (is_digit digit 10) _ e in
-    All-cons (λ byte. is_blank byte ≡ false) digit written (unblank digit (digit_byte 10 digit (omega arith) parts.0)) (digits_unblank written parts.1)
-
-some_word : (word : List ℕ) (others : List (List ℕ)) → 0 < length word → cond (not (length word == 0)) (word ∷ others) others ≡ word ∷ others
-some_word word others h = let some : (length word == 0) ≡ false = grind arith in ap (λ (none : Bool). cond (not none) (word ∷ others) others) some
-
 -- a number is the first word
 pub number_word : (number : ℕ) (rest : List ℕ) → number < 2 ^ 64 → words_of (decimal number ++ 32 ∷ rest) ≡ decimal number ∷ words_of rest
 number_word number rest h =
     let s : Spells 10 number (decimal number) = decimal_spells number h in
-    ap without_empty (slice_split_at is_blank (decimal number) 32 rest (digits_unblank (decimal number) s.all) refl) ∙ some_word (decimal number) (words_of rest) s.some
+    words_more (decimal number) rest (high_word (decimal number) (spelled_high 10 number (decimal number) (omega arith) s) s.some)
 
 pub number_is_whole : (number : ℕ) → number < 2 ^ 32 → whole_number (decimal number) ≡ Ok number
 number_is_whole number h =

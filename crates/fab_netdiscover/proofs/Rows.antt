@@ -1,5 +1,5 @@
 -- Rows that are found, and what they lead to.
-use Rattle.std.proofs.Common.{◌≡◌, ◌<◌, ℕ, Bool, true, false, cond, List, [], ◌∷◌, Option, Some, None, length, refl, sym, subst, ap, ◌∙◌, arith, nat_lt}
+use Rattle.std.proofs.Common.{◌≡◌, ◌<◌, ℕ, Bool, true, false, cond, List, Some, None, length, refl, sym, subst, ap, ◌∙◌, arith, nat_lt}
 use Rattle.std.specs.Prelude.{slice_get, find, position, All, Contains}
 use Rattle.std.specs.List.{position_or_len}
 use Rattle.std.proofs.lemmas.List.Folds.{find_at}

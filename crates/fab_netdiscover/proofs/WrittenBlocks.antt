@@ -1,5 +1,5 @@
 -- Written nodes with their ports, and the records that they are read as.
-use Rattle.std.proofs.Common.{◌≡◌, ◌≢◌, ◌<◌, ◌≤◌, ◌+◌, ◌-◌, ◌^◌, ℕ, zero, suc, Bool, true, false, cond, List, [], ◌∷◌, ◌++◌, Option, Some, None, length, refl, sym, subst, ap, ◌∙◌, arith, codes}
+use Rattle.std.proofs.Common.{◌≡◌, ◌<◌, ◌≤◌, ◌+◌, ◌-◌, ◌^◌, ℕ, List, [], ◌∷◌, ◌++◌, Option, Some, None, length, refl, sym, subst, ap, ◌∙◌, arith, codes}
 use Rattle.std.specs.Prelude.{Ok, Result, decimal, slice_get, filter_map, map}
 use Rattle.std.specs.List.{concat, flat_map, cons_option}
 use Rattle.std.specs.Str.Lines.{lines}
@@ -16,7 +16,7 @@ use Rattle.fab_model.specs.Records.{Records}
 use Rattle.fab_model.specs.Written.{Block, laid_links, laid_out}
 use Rattle.fab_netdiscover.specs.declared.fault.LineFault.{LineFault}
 use Rattle.fab_netdiscover.specs.declared.fault.ReadFault.{ReadFault}
-use Rattle.fab_netdiscover.specs.Lines.{LineKind, SwitchHead, AdapterHead, PortLine, PassedOver, line_kind, port_line}
+use Rattle.fab_netdiscover.specs.Lines.{SwitchHead, AdapterHead, PortLine, line_kind, port_line}
 use Rattle.fab_netdiscover.specs.Reading.{with_node, with_link, under_last, line_read, on_line, lines_read}
 use Rattle.fab_netdiscover.specs.Writing.{name_text, in_quotes, address_text, word_of, head_text, switch_head_text, adapter_head_text}
 use Rattle.fab_netdiscover.proofs.ReadHeads.{onto, concat-onto, switch_node, adapter_node, switch_rest, adapter_rest, switch_rest_read, adapter_rest_read}

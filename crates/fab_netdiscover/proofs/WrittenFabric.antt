@@ -1,33 +1,31 @@
 -- The text of a fabric is read as its rows written out.
-use Rattle.std.proofs.Common.{◌≡◌, ◌≢◌, ◌<◌, ◌≤◌, ◌+◌, ◌-◌, ◌*◌, ◌^◌, ℕ, zero, suc, Bool, true, false, cond, ◌&&◌, List, [], ◌∷◌, ◌++◌, Option, Some, None, length, get_or, map, refl, sym, subst, ap, ◌∙◌, arith, codes}
-use Rattle.std.specs.Prelude.{Ok, Result, decimal, slice_get, filter_map, find, option_map, unwrap_or, ◌==◌, nat_lt, All, AllPairs, Contains}
+use Rattle.std.proofs.Common.{◌≡◌, ◌≢◌, ◌<◌, ◌≤◌, ◌+◌, ◌^◌, ℕ, suc, Bool, true, false, cond, List, [], ◌∷◌, ◌++◌, Option, Some, None, length, get_or, map, refl, sym, subst, ap, ◌∙◌, arith}
+use Rattle.std.specs.Prelude.{Ok, slice_get, find, option_map, unwrap_or, ◌==◌, nat_lt, All, Contains}
 use Rattle.std.specs.List.{flat_map, enumerate_from, position_or_len}
 use Rattle.std.specs.Option.{option_or}
 use Rattle.std.specs.Str.Lines.{lines}
+use Rattle.std.proofs.lemmas.Bool.{and_parts}
 use Rattle.std.proofs.lemmas.List.{append_assoc, append-nil}
 use Rattle.std.proofs.lemmas.List.Elements.{All-contains}
 use Rattle.std.proofs.lemmas.List.Folds.{find_at}
 use Rattle.std.proofs.lemmas.Option.{slice_get_within, get_or_from_slice_get}
 use Rattle.fab_model.specs.declared.raw.NodeKind.TheVariants.{Switch, Adapter}
-use Rattle.fab_model.specs.declared.raw.RawLink.{RawLink}
 use Rattle.fab_model.specs.declared.rows.SwitchRow.{SwitchRow}
 use Rattle.fab_model.specs.declared.rows.AdapterRow.{AdapterRow}
 use Rattle.fab_model.specs.declared.rows.ChannelRow.{ChannelRow}
 use Rattle.fab_model.specs.declared.rows.TerminalRow.{TerminalRow}
 use Rattle.fab_model.specs.Description.{HasNoLineFeed, IsDescription}
-use Rattle.fab_model.specs.Records.{Records}
 use Rattle.fab_model.specs.Topology.{Topology, guid_of, ports_of, leaves_by, is_cabled_at, reversed}
 use Rattle.fab_model.specs.WellFormed.{IsFabric, IsPort, IsUnicast, adapter_ports_of}
-use Rattle.fab_model.specs.Written.{Block, adapter_guid_of, is_on_adapter, port_numbers, channel_link, terminal_link, switch_link, adapter_link, switch_block, adapter_block, blocks, laid_out, records_of}
+use Rattle.fab_model.specs.Written.{Block, adapter_guid_of, is_on_adapter, port_numbers, switch_link, adapter_link, switch_block, adapter_block, blocks, laid_out, records_of}
 use Rattle.fab_model.proofs.MakesItself.{makes_itself}
-use Rattle.fab_netdiscover.specs.declared.fault.ReadFault.{ReadFault}
 use Rattle.fab_netdiscover.specs.Reading.{no_records, lines_read, records_in}
 use Rattle.fab_netdiscover.specs.Writing.{desc_of_switch, lid_of_switch, desc_of_adapter, switch_head_text, adapter_head_text, channel_text, terminal_text, adapter_port_text, switch_port_text, adapter_port_line, switch_text, adapter_text, text_of}
 use Rattle.fab_netdiscover.specs.Laws.{HasNoOwnCable, IsTextOf, WrittenIsRead, WrittenIsBuilt}
 use Rattle.fab_netdiscover.proofs.Rows.{holds, tip_is_switch}
 use Rattle.fab_netdiscover.proofs.NumberedRows.{Row, some_row}
-use Rattle.fab_netdiscover.proofs.WrittenPorts.{LinkText, Fit, far_link, near_link, channel_line, terminal_line, adapter_line}
-use Rattle.fab_netdiscover.proofs.WrittenBlocks.{RowFits, switch_line, adapter_head_line, ReadsAs, BlockText, AllRead, blocks_read}
+use Rattle.fab_netdiscover.proofs.WrittenPorts.{LinkText, far_link, near_link, channel_line, terminal_line, adapter_line}
+use Rattle.fab_netdiscover.proofs.WrittenBlocks.{switch_line, adapter_head_line, ReadsAs, BlockText, AllRead, blocks_read}
 
 -- ---- what is read off rows
 
@@ -75,10 +73,6 @@ passes : {X : Type 0} (p : X → Bool) (xs : List X) (x : X) → find p xs ≡ S
 passes p [] x e = cc
 passes p (y ∷ xs) x e = passes_by (p y) p xs x y refl e (passes p xs x)
 
-both : (a b : Bool) → (a && b) ≡ true → (a ≡ true) × (b ≡ true)
-both true b e = (refl, e)
-both false b e = cc
-
 same : (m n : ℕ) → (m == n) ≡ true → m ≡ n
 same m n e = grind (arith, e)
 
@@ -114,7 +108,7 @@ channel_reads : (fabric : Topology) (switch port : ℕ) (row : SwitchRow) (chann
     → find (leaves_by switch port) fabric.channels ≡ Some channel → LinkText Switch row.guid (channel_text fabric channel) (far_link Switch port (guid_of fabric channel.tip.0) channel.tip_port)
 unfolding channel_text
 channel_reads fabric switch port row channel h own e f =
-    let fits : (channel.tail.0 == switch ≡ true) × (channel.port == port ≡ true) = both (channel.tail.0 == switch) (channel.port == port) (passes (leaves_by switch port) fabric.channels channel f) in
+    let fits : (channel.tail.0 == switch ≡ true) × (channel.port == port ≡ true) = and_parts (channel.tail.0 == switch) (channel.port == port) (passes (leaves_by switch port) fabric.channels channel f) in
     let tail : channel.tail.0 ≡ switch = same channel.tail.0 switch fits.0 in
     let place : ℕ = position_or_len (leaves_by switch port) fabric.channels in
     let at : slice_get fabric.channels place ≡ Some channel = sym (find_at (leaves_by switch port) fabric.channels) ∙ f in
@@ -134,7 +128,7 @@ terminal_reads : (fabric : Topology) (switch port guid : ℕ) (terminal : Termin
     → LinkText Switch guid (terminal_text fabric terminal) (far_link Adapter port (adapter_guid_of fabric terminal.adapter) terminal.adapter_port)
 unfolding terminal_text
 terminal_reads fabric switch port guid terminal h f =
-    let fits : (terminal.switch.0 == switch ≡ true) × (terminal.port == port ≡ true) = both (terminal.switch.0 == switch) (terminal.port == port) (passes (is_cabled_at switch port) fabric.terminals terminal f) in
+    let fits : (terminal.switch.0 == switch ≡ true) × (terminal.port == port ≡ true) = and_parts (terminal.switch.0 == switch) (terminal.port == port) (passes (is_cabled_at switch port) fabric.terminals terminal f) in
     let near : IsPort (ports_of fabric terminal.switch.0) terminal.port = of_found (λ (row : TerminalRow). IsPort (ports_of fabric row.switch.0) row.port) (is_cabled_at switch port) fabric.terminals terminal h.rows.terminal_ports f in
     let far : IsPort (adapter_ports_of fabric terminal.adapter) terminal.adapter_port = of_found (λ (row : TerminalRow). IsPort (adapter_ports_of fabric row.adapter) row.adapter_port) (is_cabled_at switch port) fabric.terminals terminal h.rows.terminal_adapter_ports f in
     let port_guid : terminal.port_guid < 2 ^ 64 = of_found (λ (row : TerminalRow). row.port_guid < 2 ^ 64) (is_cabled_at switch port) fabric.terminals terminal h.types.port_guids f in
@@ -161,7 +155,7 @@ near_reads : (fabric : Topology) (adapter port guid : ℕ) (terminal : TerminalR
     → LinkText Adapter guid (adapter_port_text fabric terminal) (near_link port terminal.port_guid (guid_of fabric terminal.switch.0) terminal.port terminal.lid.0)
 unfolding adapter_port_text
 near_reads fabric adapter port guid terminal h f =
-    let fits : (terminal.adapter == adapter ≡ true) × (terminal.adapter_port == port ≡ true) = both (terminal.adapter == adapter) (terminal.adapter_port == port) (passes (is_on_adapter adapter port) fabric.terminals terminal f) in
+    let fits : (terminal.adapter == adapter ≡ true) × (terminal.adapter_port == port ≡ true) = and_parts (terminal.adapter == adapter) (terminal.adapter_port == port) (passes (is_on_adapter adapter port) fabric.terminals terminal f) in
     let far : IsPort (ports_of fabric terminal.switch.0) terminal.port = of_found (λ (row : TerminalRow). IsPort (ports_of fabric row.switch.0) row.port) (is_on_adapter adapter port) fabric.terminals terminal h.rows.terminal_ports f in
     let near : IsPort (adapter_ports_of fabric terminal.adapter) terminal.adapter_port = of_found (λ (row : TerminalRow). IsPort (adapter_ports_of fabric row.adapter) row.adapter_port) (is_on_adapter adapter port) fabric.terminals terminal h.rows.terminal_adapter_ports f in
     let port_guid : terminal.port_guid < 2 ^ 64 = of_found (λ (row : TerminalRow). row.port_guid < 2 ^ 64) (is_on_adapter adapter port) fabric.terminals terminal h.types.port_guids f in

@@ -1,20 +1,20 @@
 -- Lines that are written: no line feed stands in them, and no carriage return at their end.
-use Rattle.std.proofs.Common.{◌≡◌, ◌≢◌, ◌<◌, ◌≤◌, ◌+◌, ◌-◌, ◌^◌, ℕ, zero, suc, Bool, true, false, cond, ◌&&◌, not, List, [], ◌∷◌, ◌++◌, length, get_or, drop, take, refl, sym, subst, ap, ◌∙◌, arith, codes}
-use Rattle.std.specs.Prelude.{decimal, nat_lt, ◌==◌, All, slice_index}
+use Rattle.std.proofs.Common.{◌≡◌, ◌≢◌, ◌<◌, ◌≤◌, ◌+◌, ◌-◌, ◌^◌, ℕ, suc, Bool, true, false, cond, not, List, [], ◌∷◌, ◌++◌, length, get_or, take, refl, sym, ap, ◌∙◌, arith, codes}
+use Rattle.std.specs.Prelude.{decimal, ◌==◌, slice_index}
 use Rattle.std.specs.List.{concat, list_all, slice_split, onto_first}
-use Rattle.std.specs.Char.{is_digit}
 use Rattle.std.specs.Fmt.{radix_digits}
 use Rattle.std.specs.Str.Lines.{lines, lines_of_parts, strip_carriage_return}
-use Rattle.std.proofs.lemmas.List.{append_assoc, append-nil, length-append}
+use Rattle.std.proofs.lemmas.Bool.{and_parts}
+use Rattle.std.proofs.lemmas.List.{length-append}
 use Rattle.std.proofs.lemmas.List.Elements.{All-nil, All-cons, All-append, All-weaker, All-get_or}
 use Rattle.std.proofs.lemmas.List.Splits.{slice_split_at}
 use Rattle.fab_text.specs.Bytes.{is_line_feed}
+use Rattle.fab_text.proofs.Spelled.{Spells, IsHigh, decimal_spells, radix_spells, spelled_high}
 use Rattle.fab_model.specs.declared.raw.NodeKind.{NodeKind}
 use Rattle.fab_model.specs.declared.raw.NodeKind.TheVariants.{Switch, Adapter}
 use Rattle.fab_model.specs.Description.{HasNoLineFeed}
 use Rattle.fab_netdiscover.specs.Writing.{name_text, port_text, port_guid_text, in_quotes, address_text, guid16}
-use Rattle.fab_netdiscover.proofs.Spelled.{Spells, decimal_spells, guid16_spells, radix_spells}
-use Rattle.fab_netdiscover.proofs.ReadTails.{digit_parts, digit_byte}
+use Rattle.fab_netdiscover.proofs.ReadNumbers.{guid16_spells}
 
 pub record IsLine (body : List ℕ) : Type 0 where
   pub no_feed : HasNoLineFeed body
@@ -63,27 +63,21 @@ behind_line xs ys h some l = record {
 }
 
 -- digits
-above : (base : ℕ) (written : List ℕ) → base ≤ 16 → list_all (λ byte. is_digit byte base) written ≡ true → All (λ byte. 48 ≤ byte) written
-above base [] h e = All-nil _
-above base (digit ∷ written) h e =
-    let parts : (is_digit digit base ≡ true) × (list_all (λ byte. is_digit byte base) written ≡ true) = digit_parts (is_digit digit base) _ e in
-    All-cons (λ byte. 48 ≤ byte) digit written (digit_byte base digit h parts.0) (above base written h parts.1)
-
-no_feed_above : (written : List ℕ) → All (λ byte. 48 ≤ byte) written → HasNoLineFeed written
+no_feed_above : (written : List ℕ) → IsHigh written → HasNoLineFeed written
 no_feed_above written h = All-weaker (λ byte. 48 ≤ byte) (λ byte. byte ≢ 10) (λ byte low same. absurd (omega (arith, low, same))) written h
 
 pub decimal_line : (number : ℕ) → number < 2 ^ 64 → IsLine (decimal number)
 decimal_line number h =
     let s : Spells 10 number (decimal number) = decimal_spells number h in
-    let high : All (λ byte. 48 ≤ byte) (decimal number) = above 10 (decimal number) (omega arith) s.all in
+    let high : IsHigh (decimal number) = spelled_high 10 number (decimal number) (omega arith) s in
     let last : 48 ≤ get_or (decimal number) (length (decimal number) - 1) 0 = All-get_or (λ byte. 48 ≤ byte) (decimal number) (length (decimal number) - 1) 0 (omega (arith, s.some)) high in
     record { no_feed = no_feed_above (decimal number) high; ends = λ same. absurd (omega (arith, last, same)) }
 
 pub guid_feedless : (guid : ℕ) → guid < 2 ^ 64 → HasNoLineFeed (guid16 guid)
-guid_feedless guid h = no_feed_above (guid16 guid) (above 16 (guid16 guid) (omega arith) (guid16_spells guid h).all)
+guid_feedless guid h = no_feed_above (guid16 guid) (spelled_high 16 guid (guid16 guid) (omega arith) (guid16_spells guid h))
 
 radix_feedless : (guid : ℕ) → guid < 2 ^ 64 → HasNoLineFeed (radix_digits 16 false guid)
-radix_feedless guid h = no_feed_above (radix_digits 16 false guid) (above 16 (radix_digits 16 false guid) (omega arith) (radix_spells guid h).spells.all)
+radix_feedless guid h = no_feed_above (radix_digits 16 false guid) (spelled_high 16 guid (radix_digits 16 false guid) (omega arith) (radix_spells guid h).spells)
 
 -- ---- parts of lines
 
@@ -104,7 +98,7 @@ literal_step false byte e h = λ same. grind (arith, e, same)
 pub literal : (bytes : List ℕ) → has_none bytes ≡ true → HasNoLineFeed bytes
 literal [] e = All-nil _
 literal (byte ∷ bytes) e =
-    let parts : (not (byte == 10) ≡ true) × (has_none bytes ≡ true) = digit_parts (not (byte == 10)) (has_none bytes) e in
+    let parts : (not (byte == 10) ≡ true) × (has_none bytes ≡ true) = and_parts (not (byte == 10)) (has_none bytes) e in
     one_feedless byte bytes (literal_step (byte == 10) byte refl parts.0) (literal bytes parts.1)
 
 pub port_feedless : (port : ℕ) → port < 2 ^ 64 → HasNoLineFeed (port_text port)

@@ -1,10 +1,8 @@
 -- Written port lines, and the links that they are read as.
-use Rattle.std.proofs.Common.{◌≡◌, ◌≢◌, ◌<◌, ◌≤◌, ◌+◌, ◌-◌, ◌^◌, ℕ, zero, suc, Bool, true, false, cond, ◌&&◌, not, List, [], ◌∷◌, ◌++◌, Option, Some, None, length, refl, sym, subst, ap, ◌∙◌, arith, codes}
-use Rattle.std.specs.Prelude.{Ok, decimal, ◌==◌, All}
+use Rattle.std.proofs.Common.{◌≡◌, ◌≢◌, ◌<◌, ◌^◌, ℕ, Bool, true, false, cond, List, [], ◌∷◌, ◌++◌, Some, None, length, refl, sym, ap, ◌∙◌, arith, codes}
+use Rattle.std.specs.Prelude.{Ok, decimal, ◌==◌}
 use Rattle.std.specs.List.{concat}
-use Rattle.std.specs.Fmt.{radix_digits}
-use Rattle.std.proofs.lemmas.List.{append_assoc, append-nil, length-append}
-use Rattle.std.proofs.lemmas.List.Elements.{All-nil, All-cons, All-append}
+use Rattle.std.proofs.lemmas.List.{append_assoc, length-append}
 use Rattle.fab_model.specs.declared.raw.NodeKind.{NodeKind}
 use Rattle.fab_model.specs.declared.raw.NodeKind.TheVariants.{Switch, Adapter}
 use Rattle.fab_model.specs.declared.raw.RawNode.{RawNode}
@@ -13,14 +11,14 @@ use Rattle.fab_model.specs.Description.{HasNoLineFeed}
 use Rattle.fab_netdiscover.specs.declared.lines.Cabled.{Cabled}
 use Rattle.fab_netdiscover.specs.declared.words.Address.{Address}
 use Rattle.fab_netdiscover.specs.Lines.{PortLine, line_kind, cabled_at, link_of, link_under, is_own, port_line}
-use Rattle.fab_netdiscover.specs.Writing.{name_text, port_text, far_end, port_guid_text, port_with_guid, in_quotes, address_text, described, guid16}
+use Rattle.fab_netdiscover.specs.Writing.{name_text, port_text, far_end, port_guid_text, port_with_guid, in_quotes, address_text, described}
 use Rattle.fab_text.specs.Readings.{◌>>=◌}
 use Rattle.fab_netdiscover.specs.Fronts.{Read}
-use Rattle.fab_netdiscover.proofs.Spelled.{decimal_spells}
+use Rattle.fab_text.proofs.Spelled.{decimal_spells}
 use Rattle.fab_netdiscover.proofs.ReadParts.{cabled_read}
 use Rattle.fab_netdiscover.proofs.ReadTails.{marked_address}
 use Rattle.fab_netdiscover.proofs.ReadHeads.{onto, concat-onto}
-use Rattle.fab_netdiscover.proofs.WrittenLines.{IsLine, behind_line, literal, decimal_line, guid_feedless, port_feedless, name_feedless, guid_text_feedless, quotes_feedless, address_feedless}
+use Rattle.fab_netdiscover.proofs.WrittenLines.{IsLine, behind_line, literal, decimal_line, port_feedless, name_feedless, guid_text_feedless, quotes_feedless, address_feedless}
 
 -- ---- bodies
 

@@ -2,7 +2,6 @@
 use Rattle.std.specs.Prelude.{◌≡◌, ℕ, Bool, ◌&&◌, List, find, nat_eq}
 use Rattle.std.specs.HashMap.{HashMap, get}
 use Rattle.fab_model.specs.declared.rows.TerminalRow.{TerminalRow}
-use Rattle.fab_model.specs.Topology.{Topology}
 use Rattle.fab_model.specs.Written.{is_on_adapter}
 
 abbrev pub same_port : ℕ × ℕ → ℕ × ℕ → Bool

@@ -1,8 +1,9 @@
 -- What stands at the front of a line's bytes, and the bytes after it; or what is wrong there.
-use Rattle.std.specs.Prelude.{ℕ, ◌+◌, ◌^◌, Bool, true, false, ◌&&◌, not, List, [], ◌∷◌, length, take, drop, filter, Result, Ok, Err, nat_eq, nat_lt, ◌==◌, slice_index, codes, position, ok_or, if◌then◌else◌}
-use Rattle.std.specs.List.{starts_with, prefix_len, slice_split, list_any, before_last, after_last}
+use Rattle.std.specs.Prelude.{ℕ, ◌+◌, ◌^◌, Bool, true, false, ◌&&◌, not, List, [], ◌∷◌, length, take, drop, Result, Ok, Err, nat_eq, nat_lt, ◌==◌, slice_index, codes, position, ok_or, if◌then◌else◌}
+use Rattle.std.specs.List.{starts_with, prefix_len, list_any, before_last, after_last}
 use Rattle.std.specs.Str.{byte, bytes_eq}
 use Rattle.fab_text.specs.Bytes.{is_blank, is_quote}
+use Rattle.fab_text.specs.Fields.{words_of}
 use Rattle.fab_text.specs.Readings.{◌>>=◌}
 use Rattle.fab_text.specs.Digits.{digits_at_front, number_spelled}
 use Rattle.fab_model.specs.declared.raw.NodeKind.{NodeKind}
@@ -103,10 +104,6 @@ description_at bytes = do
   quote ← blanks kinds.Description gap
   text ← in_quotes quote
   Ok (take 64 text.0, text.1)
-
--- the runs of bytes between blanks
-abbrev pub words_of : List ℕ → List (List ℕ)
-words_of bytes = filter (λ word. not (length word == 0)) (slice_split is_blank bytes)
 
 -- the words after the first word that is this one
 abbrev pub words_after : List ℕ → List (List ℕ) → List (List ℕ)

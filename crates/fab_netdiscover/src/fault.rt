@@ -1,3 +1,4 @@
+//! What may be wrong with a text.
 ghost use Rattle.std.specs.Prelude.{◌≡◌};
 ghost use Rattle.fab_netdiscover.specs.Reading.{fault_on};
 

@@ -1,13 +1,12 @@
 //! What stands at the front of a line's bytes. Each reader gives what it read and the bytes after it.
 ghost use Rattle.std.specs.Prelude.{◌≡◌, ◌+◌, ◌==◌, option_map, position, drop};
-ghost use Rattle.fab_text.specs.Bytes.{is_blank};
 ghost use Rattle.fab_text.specs.Readings.{Answers};
 ghost use Rattle.fab_netdiscover.specs.Fronts as fronts;
 
 use crate::BadKind;
 use crate::fault::LineFault;
 use fab_model::NodeKind;
-use fab_text::{read_dec, read_desc, read_hex};
+use fab_text::{is_blank, read_dec, read_desc, read_hex};
 
 /// Whose name it is, by its letter.
 #[derive(Clone, Copy, Debug, PartialEq, Eq)]
@@ -22,12 +21,6 @@ pub(crate) enum NameKind {
 pub(crate) struct Name {
     pub(crate) kind: NameKind,
     pub(crate) guid: u64,
-}
-
-pub(crate) fn is_blank(byte: u8) -> bool
-    ensures { result ≡ is_blank byte }
-{
-    byte == b' ' || byte == b'\t'
 }
 
 pub(crate) fn past_blanks(bytes: &[u8]) -> &[u8]

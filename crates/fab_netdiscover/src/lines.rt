@@ -8,11 +8,12 @@ ghost use Rattle.fab_netdiscover.specs.Lines as lines;
 use crate::BadKind;
 use crate::fault::LineFault;
 use crate::fronts::{
-    NameKind, blanks, description_at, exactly, guid_at, is_blank, name_at, name_of, number_at,
-    past_blanks, past_byte, port_at,
+    NameKind, blanks, description_at, exactly, guid_at, name_at, name_of, number_at, past_blanks,
+    past_byte, port_at,
 };
 use crate::words::{Address, address_behind_mark, address_in};
 use fab_model::{Desc, NodeKind, RawLink, RawNode};
+use fab_text::is_blank;
 
 /// What a line is, by what stands at its front; with the bytes that are read on.
 #[derive(Clone, Copy)]

@@ -1,3 +1,4 @@
+//! Reading a text line by line into raw records.
 ghost use Rattle.std.specs.Prelude.{◌<◌, ◌≤◌, ◌-◌, length, slice_get, IfOk};
 ghost use Rattle.fab_model.specs.Description.{HasNoLineFeed};
 ghost use Rattle.fab_model.specs.Records.{last_line};
@@ -58,7 +59,7 @@ fn read_line(line: u32, bytes: &[u8], raw: &mut Raw) -> Result<(), ReadFault>
 /// from left to right. What the records are short of for a fabric, `Fabric::build` says.
 ///
 /// Lines that are neither a head (`Switch`, `Ca` or `Rt`) nor a port line are passed over, and so is a cable from a
-/// switch to itself. Memory is taken for the records alone.
+/// switch to itself. Time: the bytes of the text. Memory is taken for the records alone.
 #[tactic(auto, using(fab_text::proofs::LinesMet::no_line_left, fab_text::proofs::LinesMet::line_first, crate::proofs::OneLine::line_is_line), unfolding(crate::specs::Reading::lines_read, crate::specs::Reading::records_in))]
 pub fn read(alloc: Global, text: &[u8]) -> Result<Raw, ReadFault>
     requires { length text.now ≤ 67108864 }

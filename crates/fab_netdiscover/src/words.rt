@@ -1,5 +1,6 @@
 //! The LID and the LMC, by their words.
 ghost use Rattle.std.specs.Prelude.{◌≡◌, ◌<◌, [], ◌∷◌, length, IfSome, MatchOption};
+ghost use Rattle.fab_text.specs.Fields.{words_of};
 ghost use Rattle.fab_text.specs.Readings.{Answers};
 ghost use Rattle.fab_netdiscover.specs.Fronts as fronts;
 
@@ -16,9 +17,9 @@ pub(crate) struct Address {
 }
 
 /// The next word, and the bytes after it.
-#[tactic(auto, using(std::proofs::lemmas::Grind::common_steps, crate::proofs::LineWords::next_word_is, crate::proofs::LineWords::no_word_is))]
+#[tactic(auto, using(std::proofs::lemmas::Grind::common_steps, fab_text::proofs::Words::next_word_is, fab_text::proofs::Words::no_word_is))]
 fn next_word(bytes: &[u8]) -> Option<(&[u8], &[u8])>
-    ensures words { MatchOption result (fronts.words_of bytes.now ≡ []) (λ read. fronts.words_of bytes.now ≡ read.0.now ∷ fronts.words_of read.1.now) }
+    ensures words { MatchOption result (words_of bytes.now ≡ []) (λ read. words_of bytes.now ≡ read.0.now ∷ words_of read.1.now) }
     ensures shorter { IfSome result (λ read. length read.1.now < length bytes.now) }
 {
     let place = word(bytes, 0)?;
@@ -28,8 +29,8 @@ fn next_word(bytes: &[u8]) -> Option<(&[u8], &[u8])>
 /// The bytes after the first word that is this one.
 fn after_word<'a>(key: &[u8], bytes: &'a [u8]) -> Option<&'a [u8]>
     ensures { MatchOption result
-        (fronts.words_after key.now (fronts.words_of bytes.now) ≡ [])
-        (λ rest. fronts.words_after key.now (fronts.words_of bytes.now) ≡ fronts.words_of rest.now) }
+        (fronts.words_after key.now (words_of bytes.now) ≡ [])
+        (λ rest. fronts.words_after key.now (words_of bytes.now) ≡ words_of rest.now) }
 {
     let mut rest = bytes;
     while let Some((found, after)) = next_word(rest) {
@@ -53,7 +54,7 @@ fn whole_number(word: &[u8]) -> Result<u32, LineFault>
 
 /// The number that is the word after the first word that is this one, and the bytes after it.
 fn number_after<'a>(key: &[u8], bytes: &'a [u8]) -> Result<(u32, &'a [u8]), LineFault>
-    ensures { Answers (λ read. (read.0, fronts.words_of read.1.now)) result (fronts.first_number (fronts.words_after key.now (fronts.words_of bytes.now))) }
+    ensures { Answers (λ read. (read.0, words_of read.1.now)) result (fronts.first_number (fronts.words_after key.now (words_of bytes.now))) }
 {
     let Some(rest) = after_word(key, bytes) else {
         return Err(LineFault::Bad(BadKind::Lid));

@@ -375,7 +375,8 @@ fn push_adapters(alloc: Global, text: &mut Vec<u8>, fabric: &Fabric) -> Result<(
 
 /// The text of a fabric in the shape that `ibnetdiscover` prints: the switches by number and then the
 /// adapters by number, each with its port lines by ascending port and an empty line. Speeds aren't kept, and
-/// aren't written.
+/// aren't written. Time: the ports of all nodes and the bytes of the text. Memory: the text, and one entry a
+/// terminal.
 #[tactic(auto, unfolding(crate::specs::Writing::text_of))]
 pub fn write(alloc: Global, fabric: &Fabric) -> Result<Vec<u8>, AllocError>
     ensures text { IfOk result (λ bytes. bytes.items ≡ writing.text_of fabric.now) }

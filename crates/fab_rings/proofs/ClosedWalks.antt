@@ -1,11 +1,11 @@
 -- Nodes that are not taken, each of which has such a predecessor, lie behind a closed walk.
-use Rattle.std.proofs.Common.{◌≡◌, ℕ, zero, suc, ◌+◌, ◌<◌, ◌≤◌, true, false, eqb, List, [], ◌∷◌, length, ◌∙◌, sym, ap, refl, inl, inr, ◌⊎◌, arith}
+use Rattle.std.proofs.Common.{◌≡◌, ℕ, zero, suc, ◌+◌, ◌<◌, true, false, eqb, List, [], ◌∷◌, length, ◌∙◌, sym, ap, refl, inl, inr, ◌⊎◌, arith}
 use Rattle.std.specs.List.{list_any, IsDistinct, AllByRecursion}
 use Rattle.std.proofs.lemmas.Bool.{eqb-true, eq-eqb, cases_lt, cases_Bool, or_parts, or_cases, or_left}
 use Rattle.std.proofs.lemmas.List.{get_or_past}
 use Rattle.std.proofs.lemmas.Map.Keys.{IsDistinct-cons}
 use Rattle.std.proofs.lemmas.Map.Steps.{length-le_from_distinct_below}
-use Rattle.fab_graph.specs.Walks.{Walk, IsEdge, IsOnClosedWalk, HasClosedWalk}
+use Rattle.fab_graph.specs.Walks.{Walk, IsEdge, HasClosedWalk}
 use Rattle.fab_rings.specs.EdgeList.{EdgeList, AreNodeLevels}
 use Rattle.fab_rings.specs.Layers.{level_of, AreLayers}
 

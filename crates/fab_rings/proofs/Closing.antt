@@ -1,12 +1,11 @@
 -- All edges that leave the last group were looked at: its nodes are a component.
-use Rattle.std.proofs.Common.{◌≡◌, ◌≢◌, ℕ, ◌+◌, ◌<◌, ◌≤◌, List, [], ◌∷◌, ◌++◌, length, take, drop, ◌∙◌, sym, ap, subst, refl, inl, inr, ◌⊎◌, arith}
+use Rattle.std.proofs.Common.{◌≡◌, ℕ, ◌+◌, ◌<◌, ◌≤◌, List, [], ◌∷◌, ◌++◌, length, drop, ◌∙◌, sym, ap, subst, inl, inr, ◌⊎◌, arith}
 use Rattle.std.specs.Prelude.{All, Contains, slice_index_or}
 use Rattle.std.proofs.lemmas.Bool.{cases_lt}
 use Rattle.std.proofs.lemmas.List.{length-take, length_push, get_or_default, get_or_past}
 use Rattle.std.proofs.lemmas.List.Elements.{All-drop}
 use Rattle.fab_graph.specs.Walks.{IsEdge}
 use Rattle.fab_rings.specs.declared.strong_components.Group.{Group}
-use Rattle.fab_rings.specs.Layers.{times}
 use Rattle.fab_rings.specs.StrongComponents.{Comes, number_of}
 use Rattle.fab_rings.specs.PathSearch.{PathSearched, IsAt, IsNoEarlier, IsLookedAt, IsHeadFrom, IsPathSearch, AreNumbered, with_closed}
 use Rattle.fab_rings.proofs.Places.{at_front, at_end, in_front, in_pushed, end_there, from_taken, taken, from_dropped, dropped}

@@ -1,6 +1,6 @@
 -- An edge leads to a new node: it is open, in a group of its own.
-use Rattle.std.proofs.Common.{◌≡◌, ◌≢◌, ℕ, ◌+◌, ◌*◌, ◌<◌, ◌≤◌, List, [], ◌∷◌, ◌++◌, length, ◌∙◌, sym, ap, subst, refl, inl, inr, ◌⊎◌, arith, get_or-set_same, get_or-set_other}
-use Rattle.std.specs.Prelude.{◌==◌, Contains, slice_set}
+use Rattle.std.proofs.Common.{◌≡◌, ◌≢◌, ℕ, ◌+◌, ◌*◌, ◌<◌, ◌≤◌, List, [], ◌∷◌, length, ◌∙◌, sym, ap, subst, inl, inr, ◌⊎◌, arith, get_or-set_same, get_or-set_other}
+use Rattle.std.specs.Prelude.{◌==◌, Contains}
 use Rattle.std.proofs.lemmas.Bool.{cases_lt, cases_eq}
 use Rattle.std.proofs.lemmas.List.{length-append, length-set, length-map, length_push}
 use Rattle.std.proofs.lemmas.List.Elements.{All-append}
@@ -10,7 +10,7 @@ use Rattle.fab_rings.specs.declared.strong_components.Group.{Group}
 use Rattle.fab_rings.specs.Neighbours.{successors_of}
 use Rattle.fab_rings.specs.Layers.{times}
 use Rattle.fab_rings.specs.StrongComponents.{Comes, number_of}
-use Rattle.fab_rings.specs.PathSearch.{PathSearched, IsAt, IsNoEarlier, IsKeptFor, IsLookedAt, IsHeadFrom, IsPathSearch, HasTaken, with_head, with_found, work_left}
+use Rattle.fab_rings.specs.PathSearch.{PathSearched, IsAt, IsNoEarlier, IsLookedAt, IsHeadFrom, IsPathSearch, HasTaken, with_head, with_found, work_left}
 use Rattle.fab_rings.proofs.Times.{one_if, one_if_same, none_if_other, stands_there, counts_there}
 use Rattle.fab_rings.proofs.EdgesOf.{leaving, successor_edge, successor_there, successors_low}
 use Rattle.fab_rings.proofs.Places.{at_front, at_back, at_end, from_append, from_push, in_front, in_pushed, end_there, all_front}

@@ -1,11 +1,11 @@
 -- A search that has taken a head which is not looked at yet.
-use Rattle.std.proofs.Common.{◌≡◌, ℕ, zero, suc, ◌+◌, ◌<◌, ◌≤◌, List, [], ◌∷◌, ◌++◌, length, ◌∙◌, sym, ap, subst, refl, inl, inr, ◌⊎◌, arith}
+use Rattle.std.proofs.Common.{◌≡◌, ℕ, zero, suc, ◌<◌, ◌≤◌, [], ◌∷◌, ◌++◌, length, sym, subst, refl, inl, inr, ◌⊎◌, arith}
 use Rattle.std.specs.Prelude.{Contains}
 use Rattle.std.proofs.lemmas.Bool.{cases_lt}
 use Rattle.fab_graph.specs.Walks.{Walk, IsEdge}
 use Rattle.fab_rings.specs.declared.strong_components.Group.{Group}
 use Rattle.fab_rings.specs.StrongComponents.{Comes, number_of}
-use Rattle.fab_rings.specs.PathSearch.{PathSearched, IsAt, IsNoEarlier, IsLookedAt, IsHeadFrom, IsPathSearch, HasTaken, with_head}
+use Rattle.fab_rings.specs.PathSearch.{PathSearched, IsAt, IsLookedAt, IsHeadFrom, IsPathSearch, HasTaken, with_head}
 use Rattle.fab_rings.proofs.Places.{at_front, at_end, from_push, in_pushed, all_front}
 
 -- walks one after the other

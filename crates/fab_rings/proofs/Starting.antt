@@ -1,16 +1,14 @@
 -- The search begins with all nodes new, and ends with all of them closed.
-use Rattle.std.proofs.Common.{◌≡◌, ℕ, ◌+◌, ◌*◌, ◌<◌, ◌≤◌, List, [], ◌∷◌, ◌++◌, length, replicate, ◌∙◌, sym, ap, subst, refl, inl, inr, ◌⊎◌, arith}
+use Rattle.std.proofs.Common.{◌≡◌, ℕ, ◌+◌, ◌<◌, ◌≤◌, List, [], length, replicate, ◌∙◌, ap, inl, inr, arith}
 use Rattle.std.specs.Prelude.{◌==◌, Contains}
 use Rattle.std.specs.List.{range_with_len}
 use Rattle.std.proofs.lemmas.Bool.{cases_lt}
 use Rattle.std.proofs.lemmas.List.{length-replicate, get_or-replicate, get_or_past}
 use Rattle.std.proofs.lemmas.List.FromFn.{length-range_with_len, get_or-range_with_len}
 use Rattle.std.proofs.lemmas.List.Folds.{sum_by-replicate}
-use Rattle.fab_graph.specs.Walks.{IsEdge}
 use Rattle.fab_rings.specs.declared.strong_components.Group.{Group}
 use Rattle.fab_rings.specs.EdgeList.{EdgeList, IsGraph}
-use Rattle.fab_rings.specs.Layers.{times}
-use Rattle.fab_rings.specs.StrongComponents.{Comes, number_of, AreStrongComponents}
+use Rattle.fab_rings.specs.StrongComponents.{number_of, AreStrongComponents}
 use Rattle.fab_rings.specs.PathSearch.{PathSearched, IsAt, IsPathSearch}
 use Rattle.fab_rings.proofs.Times.{one_if}
 use Rattle.fab_rings.proofs.EdgesOf.{ends_low}

@@ -1,3 +1,8 @@
+//! Directed graphs as lists of edges.
+//!
+//! Nodes are the numbers below a count. Edges are kept in the order in which they come, each as often as it
+//! comes: what is said of a graph speaks of its edges alone, and repeats change nothing but the cost. Eight
+//! bytes an edge.
 ghost use Rattle.std.specs.Prelude.{◌≡◌, ◌<◌, [], ◌∷◌, ◌++◌, IfOk, OnOk, OnErr};
 ghost use Rattle.fab_rings.specs.EdgeList.{IsGraph};
 
@@ -32,7 +37,8 @@ impl Graph {
         })
     }
 
-    /// Adds an edge.
+    /// Adds an edge, which may be there already. An error comes for want of memory, and nothing is added then.
+    /// In constant time, on average.
     pub fn push(&mut self, first: u32, second: u32) -> Result<(), AllocError>
         requires first { first < self.old.nodes }
         requires second { second < self.old.nodes }

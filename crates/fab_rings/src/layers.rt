@@ -1,4 +1,11 @@
-// The nodes of a graph, taken layer by layer.
+//! The levels of a graph: the nodes are taken layer by layer.
+//!
+//! The level of a node is 1 where no edge leads to it, else one more than the greatest level of a predecessor.
+//! A node is taken once all its predecessors are, and its level is the number of its layer. What is never taken
+//! lies behind a closed walk: then there are no levels. Each edge is taken away once, so time and memory are
+//! linear in the nodes and edges.
+//!
+//! Source: A. B. Kahn, "Topological Sorting of Large Networks", Communications of the ACM 5 (1962).
 ghost use Rattle.std.specs.Prelude.{◌≡◌, ℕ, ◌+◌, ◌<◌, ◌≤◌, ◌^◌, [], length, replicate, count_by, ◌==◌, IfOk, OnOk, MatchOption, All};
 ghost use Rattle.fab_graph.specs.Walks.{IsEdge, HasClosedWalk};
 ghost use Rattle.fab_rings.specs.EdgeList.{EdgeList, IsGraph, AreNodeLevels};

@@ -1,4 +1,11 @@
-// How near the nodes of a graph are to one of them.
+//! How near the nodes of a graph are to one of them.
+//!
+//! The nearness of a node is the least number of edges, at least one, on a walk from it to the last one. The
+//! edges are followed backwards from there, layer by layer, each once: time and memory are linear in the nodes
+//! and edges.
+//!
+//! Source: E. F. Moore, "The Shortest Path through a Maze", Proceedings of the International Symposium on the
+//! Theory of Switching (1959).
 ghost use Rattle.std.specs.Prelude.{◌≡◌, ℕ, ◌+◌, ◌<◌, [], length, IfOk, OnOk, All};
 ghost use Rattle.fab_rings.specs.EdgeList.{IsGraph};
 ghost use Rattle.fab_rings.specs.Layers.{times};

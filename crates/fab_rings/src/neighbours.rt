@@ -1,4 +1,7 @@
-// The edges of a graph, node by node.
+//! The edges of a graph, node by node.
+//!
+//! The list of edges is gone through once. For each node there is a list of the other ends of its edges, one
+//! for each edge, in the order of the edges. Time and memory are linear in the nodes and edges.
 ghost use Rattle.std.specs.Prelude.{◌≡◌, ◌<◌, ◌++◌, [], ◌∷◌, length, replicate, IfOk, OnOk, slice_index_or, slice_set};
 ghost use Rattle.fab_rings.specs.EdgeList.{IsGraph};
 ghost use Rattle.fab_rings.specs.Neighbours.{successors_of, predecessors_of, AreNeighbours};

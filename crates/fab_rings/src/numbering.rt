@@ -1,4 +1,7 @@
-// The levels of a graph, or its first ring.
+//! The levels of a graph, or its first ring.
+//!
+//! A graph has levels exactly where it has no ring, so one call answers the one or the other. Time and memory
+//! are linear in the nodes and edges.
 ghost use Rattle.std.specs.Prelude.{IfOk};
 ghost use Rattle.fab_rings.specs.Numbering.{IsNumbering};
 

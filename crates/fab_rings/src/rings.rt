@@ -1,4 +1,12 @@
-// The first ring of a graph.
+//! The first ring of a graph.
+//!
+//! Many rings may show that a graph has no levels. The first one is fixed by the edges alone: it begins with
+//! the least node on a closed walk, is as short as a ring through it can be, and goes on at each node to the
+//! least successor that is one edge nearer to the first.
+//!
+//! A node is on a closed walk exactly where one of its successors is in its strongly connected component. The
+//! components are found once, so time and memory are linear in the nodes and edges, also where closed walks
+//! are joined by long ways.
 ghost use Rattle.std.specs.Prelude.{◌≡◌, ◌≢◌, ℕ, ◌<◌, ◌≤◌, List, ◌∷◌, length, true, false, IfOk, All, Contains, MatchOption, slice_index_or};
 ghost use Rattle.fab_graph.specs.Walks.{IsEdge, IsOnClosedWalk, IsAcyclic};
 ghost use Rattle.fab_graph.specs.Least.{IsLeast};

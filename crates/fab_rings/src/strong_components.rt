@@ -1,4 +1,24 @@
-// The strongly connected components of a graph.
+//! The strongly connected components of a graph.
+//!
+//! Two nodes are in one component where walks lead from each to the other. One search along the edges finds
+//! all of them. A node is new, open or closed. The open nodes stand in the order in which they were found,
+//! parted into groups: walks lead between any two nodes of a group, and from each group to all later ones. The
+//! next edge to be looked at leaves the last group. Where it leads to
+//!
+//! - a new node, that is opened, in a group of its own;
+//! - an open node, the groups from its own on are joined: a closed walk goes through them;
+//! - a closed node, there is nothing to do.
+//!
+//! Where no edge is left, all edges from the last group lead into it or to closed nodes: it is a component, and
+//! its nodes are closed. Components are numbered as they are closed, so numbers never rise along an edge.
+//!
+//! Each node is opened and closed once, each edge is looked at once, and a group is joined with an earlier one
+//! at most once: time and memory are linear in the nodes and edges.
+//!
+//! Sources: R. Tarjan, "Depth-First Search and Linear Graph Algorithms", SIAM Journal on Computing 1 (1972);
+//! P. Purdom, "A Transitive Closure Algorithm", BIT 10 (1970); I. Munro, "Efficient Determination of the
+//! Transitive Closure of a Directed Graph", Information Processing Letters 1 (1971); H. N. Gabow, "Path-Based
+//! Depth-First Search for Strong and Biconnected Components", Information Processing Letters 74 (2000).
 ghost use Rattle.std.specs.Prelude.{◌≡◌, ◌<◌, ◌≤◌, ◌≢◌, ◌++◌, ◌∷◌, [], length, true, false, IfOk, OnOk, MatchOption, IsSome, All};
 ghost use Rattle.std.specs.List.{range_with_len};
 ghost use Rattle.fab_rings.specs.declared.strong_components.Group.{Group as Grouped};

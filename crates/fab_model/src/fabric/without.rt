@@ -1,4 +1,5 @@
-// Cables taken out of a fabric.
+//! Cables taken out of a fabric: what is left when links fail or are drained. The rows that stay keep their
+//! order, so the numbers of switches and terminals stay, and those of channels close up.
 ghost use Rattle.std.specs.Prelude.{◌≡◌, ◌<◌, ◌^◌, Bool, not, length, filter, map, option_map, IfOk};
 ghost use Rattle.fab_text.specs.Readings.{Gives, GivesSeen};
 ghost use Rattle.fab_model.specs.declared.rows.ChannelRow.{ChannelRow};
@@ -15,7 +16,8 @@ impl Fabric {
     /// The same switches, adapters and terminals, without both channels of each listed cable. A cable is
     /// named by either of its ends, and naming it twice is naming it once. `UnknownCable` comes exactly where
     /// no channel leaves the named switch by the named port, with the first such place in the list, from 0;
-    /// `Memory` may come in place of any answer.
+    /// `Memory` may come in place of any answer. For c cables it takes O(c log switches) time, and makes the fabric
+    /// anew: the time and memory of `of_rows`.
     pub fn without(&self, alloc: Global, failed: &[Cable]) -> Result<Fabric, WithoutFault>
         requires { length failed.now < 2 ^ 32 }
         ensures rows { Gives wants_memory result (taken_out self.now failed.now) }

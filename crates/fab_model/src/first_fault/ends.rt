@@ -3,14 +3,16 @@ ghost use Rattle.std.specs.Prelude.{◌≡◌, ℕ, Bool, IfOk, nat_eq, ◌&&◌
 ghost use Rattle.std.specs.Bool.{beq};
 ghost use Rattle.std.specs.List.{list_any};
 ghost use Rattle.std.specs.HashSet.{contains};
+ghost use Rattle.indexmap.specs.IndexMap.{get};
 ghost use Rattle.fab_model.specs.declared.first_fault.ends.End.{End};
 ghost use Rattle.fab_model.specs.Records.{is_switch, stated};
 ghost use Rattle.fab_model.specs.Faults.{least, link_lines, has_unknown_end, is_one_sided};
-ghost use Rattle.fab_model.specs.FirstFault.{same_name, ends_of, same_side};
+ghost use Rattle.fab_model.specs.FirstFault.{AreByGuid, is_of_kind, ends_of, same_side};
 
 use super::is_switch;
 use super::scans::first_link;
-use crate::{Raw, RawLink, RawNode};
+use crate::{NodeKind, Raw, RawLink, RawNode};
+use indexmap::IndexMap;
 use std::alloc::{AllocError, Global};
 use std::collections::HashSet;
 
@@ -22,25 +24,21 @@ struct End {
     port: u32,
 }
 
-/// Whether each node is a switch, and its GUID.
-fn names(alloc: Global, raw: &Raw) -> Result<HashSet<(bool, u64)>, AllocError>
-    ensures { IfOk result (λ set. (name : Bool × ℕ) → contains same_name set name ≡ list_any (λ node. same_name (is_switch node.kind, node.guid) name) raw.now.nodes) }
+/// Whether there is a node of a kind with a GUID.
+fn has_node(by_guid: &IndexMap<u64, &RawNode>, kind: NodeKind, guid: u64) -> bool
+    ensures { result ≡ is_of_kind kind (get nat_eq by_guid.now guid) }
 {
-    let mut names = HashSet::new(alloc);
-    for node in raw.nodes() {
-        names.insert((is_switch(node.kind), node.guid))?;
-    }
-    Ok(names)
+    by_guid.get(&guid).is_some_and(|node| node.kind == kind)
 }
 
 /// The line of the first link to a node that is not there.
-pub(super) fn unknown_end(alloc: Global, raw: &Raw) -> Result<Option<u32>, AllocError>
-    ensures { IfOk result (λ line. line ≡ least (link_lines (has_unknown_end raw.now) raw.now)) }
+pub(super) fn unknown_end(raw: &Raw, by_guid: &IndexMap<u64, &RawNode>) -> Option<u32>
+    requires { AreByGuid raw.now.nodes by_guid.now }
+    ensures { result ≡ least (link_lines (has_unknown_end raw.now) raw.now) }
 {
-    let names = names(alloc, raw)?;
-    Ok(first_link(raw, |_, link| {
-        !names.contains(&(is_switch(link.far_kind), link.far_guid))
-    }))
+    first_link(raw, |_, link| {
+        !has_node(by_guid, link.far_kind, link.far_guid)
+    })
 }
 
 /// The end at which a link is stated, and the one that it names.

@@ -1,8 +1,9 @@
-ghost use Rattle.std.specs.Prelude.{◌≡◌};
+//! The text of each fault of records, with its line.
 
 use super::find_fault;
 use crate::NodeKind::{Adapter, Switch};
-use crate::{Desc, NodeKind, Raw, RawLink, RawNode};
+use crate::samples::{link, node};
+use crate::{NodeKind, Raw};
 use std::alloc::{AllocError, Global};
 use std::test::Fail;
 
@@ -36,39 +37,6 @@ const SAMPLE: Sample = Sample {
     adapter_lid: 3,
     adapter_lmc: 0,
 };
-
-fn node(line: u32, kind: NodeKind, guid: u64, ports: u32, lid: u32, lmc: u32) -> RawNode
-    ensures { result.line ≡ line }
-{
-    let desc = Desc::new(b"node");
-    RawNode {
-        line,
-        kind,
-        guid,
-        ports,
-        lid,
-        lmc,
-        desc,
-    }
-}
-
-fn link(line: u32, node: u32, port: u32, far: (NodeKind, u64, u32), lid: u32, lmc: u32) -> RawLink
-    ensures line { result.line ≡ line }
-    ensures node { result.node ≡ node }
-{
-    let (far_kind, far_guid, far_port) = far;
-    RawLink {
-        line,
-        node,
-        port,
-        far_kind,
-        far_guid,
-        far_port,
-        port_guid: 0,
-        lid,
-        lmc,
-    }
-}
 
 fn records(alloc: Global, of: Sample) -> Result<Raw, AllocError> {
     let (far_kind, far_guid) = of.far;
@@ -205,13 +173,5 @@ fn each_fault_has_its_line(rt: HostRuntime) -> Result<(), Fail> {
         };
         assert_eq!(rt; told.as_str(), want);
     }
-    Ok(())
-}
-
-#[test]
-fn a_fabric_has_none(rt: HostRuntime) -> Result<(), Fail> {
-    let raw = records(rt.alloc(), SAMPLE)?;
-    let found = find_fault(rt.alloc(), &raw);
-    assert!(rt; matches!(found, Ok(())));
     Ok(())
 }

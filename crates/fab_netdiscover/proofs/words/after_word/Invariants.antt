@@ -1,5 +1,6 @@
 use Rattle.std.proofs.Common.{◌≡◌, length}
-use Rattle.fab_netdiscover.specs.Fronts.{words_of, words_after}
+use Rattle.fab_text.specs.Fields.{words_of}
+use Rattle.fab_netdiscover.specs.Fronts.{words_after}
 use Rattle.fab_netdiscover.proofs.words.after_word.Given as goal
 
 abbrev pub invariant-loop-found : goal.invariant-loop-found

@@ -1,6 +1,5 @@
-use Rattle.std.proofs.Common.{◌≡◌, ◌-◌, ◌<◌, length, Some, ◌∙◌, refl, sym, ap, subst, arith}
+use Rattle.std.proofs.Common.{◌≡◌, ◌-◌, ◌<◌, length, Some, ◌∙◌, refl, sym, ap, arith}
 use Rattle.std.specs.Prelude.{slice_index_or}
-use Rattle.fab_rings.specs.declared.strong_components.Group.{Group}
 use Rattle.fab_rings.proofs.Joining.{one_more_gone}
 use Rattle.fab_rings.proofs.strong_components.join_behind.Goals as goal
 

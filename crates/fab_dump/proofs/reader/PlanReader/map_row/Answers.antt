@@ -10,7 +10,7 @@ use Rattle.fab_dump.proofs.reader.PlanReader.map_row.Goals.{then-has_pairs, else
 
 pub returns : goal.returns
 returns c = λ f s stands orderly.
-    let t = c.args.fabric.now in
+    let t = c.args.self.now.fabric.now in
     let switch = c.args.switch in
     let pairs = c.has_pairs.ensures ∙ ap has_pairs stands.version in
     let block : c.if-has_pairs.self ≡ after_map_row f switch.0 = elim c.if-has_pairs.branch [
@@ -19,5 +19,5 @@ returns c = λ f s stands orderly.
     ] in (
       _,
       ap (map_row f c.args.line s switch.0) (sym c.in-Some.ensures.lanes),
-      after_map t f s c.args.self.now stands switch c.in-Some.map c.give_map.new.plan c.if-has_pairs.self (subst (IsWithin (length t.switches)) c.requires.block c.requires.fits.block) c.give_map.ensures block,
+      after_map f s c.args.self.now stands switch c.in-Some.map c.give_map.new.plan c.if-has_pairs.self (subst (IsWithin (length t.switches)) c.requires.block c.requires.fits.block) c.give_map.ensures block,
     )

@@ -14,5 +14,5 @@ returns c = λ f s stands orderly.
     let new = sym (stands.maps switch c.requires.switch) ∙ sym mark ∙ c.if-index.false in (
       _,
       new_added (TwiceBlock c.args.line) s _ (MapBlock switch) new,
-      after_map_head c.args.fabric.now f s c.args.self.now stands c.args.switch c.requires.switch,
+      after_map_head f s c.args.self.now stands c.args.switch c.requires.switch,
     )

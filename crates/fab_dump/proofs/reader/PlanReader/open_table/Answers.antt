@@ -14,5 +14,5 @@ returns c = λ f s stands orderly.
     let new = sym (stands.tables switch c.requires.switch) ∙ sym mark ∙ c.if-index.false in (
       _,
       new_added (TwiceBlock c.args.line) s _ (TableBlock switch) new,
-      after_table_head c.args.fabric.now f s c.args.self.now stands c.args.switch c.fill.new.self orderly new c.requires.switch (c.fill.ensures.items (λ y same. same) ∙ ap (λ n. replicate n false) c.args.self.now.rows.ok.0),
+      after_table_head f s c.args.self.now stands c.args.switch c.fill.new.self orderly new c.requires.switch (c.fill.ensures.items (λ y same. same) ∙ ap (λ n. replicate n false) c.args.self.now.lids_read.ok.0),
     )

@@ -1,34 +1,41 @@
-use Rattle.std.proofs.Common.{ℕ, Some, arith, drop}
+use Rattle.std.proofs.Common.{ℕ, ◌+◌, ◌<◌, length, refl, ap, ◌∙◌, Some, arith, drop}
 use Rattle.std.specs.List.{zip}
 use Rattle.std.proofs.lemmas.List.{length-map}
 use Rattle.std.proofs.lemmas.Slice.Zip.{length-zip}
-use Rattle.fab_model.specs.Topology.{lids_of, switch_id}
+use Rattle.fab_model.specs.Topology.{Topology, lids_of, switch_id}
 use Rattle.fab_dump.specs.declared.form.Block.TheVariants.{Table}
-use Rattle.fab_dump.specs.Given.{ports_said}
+use Rattle.fab_dump.specs.Given.{said_of}
 use Rattle.fab_dump.specs.Given.Given.{Port}
-use Rattle.fab_dump.proofs.LongRows.{none_said, all_said, one_port_said}
+use Rattle.fab_dump.proofs.LongRows.{none_said, all_said, one_value_said}
 use Rattle.fab_dump.proofs.reader.PlanReader.set_ports.Goals as goal
 
 pub loop-index-init : goal.loop-index-init
 loop-index-init c = record {
   fits = c.requires.fits;
+  fabric = refl;
   block = c.requires.block;
-  stands = λ f s stands. none_said c.args.fabric.now f s c.args.self.now (Table (Some (switch_id c.args.switch.0))) (ports_said c.args.switch.0 (zip (drop c.args.first (lids_of c.args.fabric.now)) c.args.ports.now)) c.requires.block stands;
+  stands = λ f s stands. none_said c.args.self.now.fabric.now f s c.args.self.now (Table (Some (switch_id c.args.switch.0))) (said_of (Port c.args.switch.0) (zip (drop c.args.first (lids_of c.args.self.now.fabric.now)) c.args.ports.now)) c.requires.block stands;
 }
 
 pub loop-index-preserved : goal.loop-index-preserved
 loop-index-preserved c = record {
   fits = c.set_port.ensures.fits;
+  fabric = c.set_port.ensures.fabric ∙ c.loop-index.invariant.fabric;
   block = c.set_port.ensures.block;
   stands = λ f s stands.
-      one_port_said c.args.fabric.now f s c.set_port.new.self c.args.switch c.args.first c.args.ports.now c.loop-index.index c.requires.within (omega arith)
-      (λ lid got. c.set_port.ensures.stands f _ lid got (c.loop-index.invariant.stands f s stands));
+      one_value_said c.args.self.now.fabric.now f s c.set_port.new.self (Table (Some (switch_id c.args.switch.0))) (Port c.args.switch.0) 0 c.args.first c.args.ports.now c.loop-index.index c.requires.within (omega arith)
+      (λ lid got. c.set_port.ensures.stands c.args.self.now.fabric.now f _ lid got (c.loop-index.invariant.stands f s stands));
 }
 
 pub returns : goal.returns
 returns c = λ f s stands.
-    let lids = lids_of c.args.fabric.now in
-    let all = ports_said c.args.switch.0 (zip (drop c.args.first lids) c.args.ports.now) in
-    all_said c.args.fabric.now f s c.loop-index.self (Table (Some (switch_id c.args.switch.0))) all c.loop-index.index
+    let lids = lids_of c.args.self.now.fabric.now in
+    let all = said_of (Port c.args.switch.0) (zip (drop c.args.first lids) c.args.ports.now) in
+    all_said c.args.self.now.fabric.now f s c.loop-index.self (Table (Some (switch_id c.args.switch.0))) all c.loop-index.index
     (omega (arith, length-map (zip (drop c.args.first lids) c.args.ports.now) (λ (row : ℕ × ℕ). Port c.args.switch.0 row.0 row.1), length-zip (drop c.args.first lids) c.args.ports.now))
     (c.loop-index.invariant.stands f s stands)
+
+pub set_port-requires-clause-within : goal.set_port-requires-clause-within
+set_port-requires-clause-within c =
+    let same = ap (λ (t : Topology). length (lids_of t)) c.loop-index.invariant.fabric in
+    omega (arith, same, c.requires.within)

@@ -1,8 +1,8 @@
-use Rattle.std.proofs.Common.{◌≡◌, ◌≢◌, ◌<◌, ◌∙◌, length, sym, ap, subst, arith, ℕ}
+use Rattle.std.proofs.Common.{◌≡◌, ◌<◌, ◌∙◌, length, sym, subst, arith}
 use Rattle.std.specs.Prelude.{slice_index_or}
 use Rattle.std.proofs.lemmas.List.{get_or_read}
 use Rattle.fab_rings.specs.StrongComponents.{number_of}
-use Rattle.fab_rings.specs.PathSearch.{PathSearched, IsPathSearch, HasTaken, work_left}
+use Rattle.fab_rings.specs.PathSearch.{PathSearched, HasTaken}
 use Rattle.fab_rings.proofs.HeadTaken.{head_low, skipped}
 use Rattle.fab_rings.proofs.Joining.{joined_at}
 use Rattle.fab_rings.proofs.Finding.{found, no_more_work}

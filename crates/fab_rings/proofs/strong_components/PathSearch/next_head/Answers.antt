@@ -1,4 +1,4 @@
-use Rattle.std.proofs.Common.{◌≡◌, ◌≢◌, length, sym, subst}
+use Rattle.std.proofs.Common.{◌≢◌, length, sym, subst}
 use Rattle.fab_rings.specs.declared.strong_components.Group.{Group}
 use Rattle.fab_rings.specs.PathSearch.{PathSearched, IsPathSearch, IsLast}
 use Rattle.fab_rings.proofs.NextHead.{next}
