@@ -1,10 +1,8 @@
 -- The route from a switch is delivered exactly where that from any switch on it is.
-use Rattle.std.proofs.Common.{◌≡◌, ◌≢◌, ℕ, zero, suc, ◌+◌, ◌-◌, ◌<◌, ◌≤◌, Bool, true, false, List, [], ◌∷◌, length, refl, sym, ◌∙◌, ap, subst, inl, inr, ◌⊎◌, arith, Some, eqb, ◌||◌, slice_get}
-use Rattle.std.specs.List.{list_any, IsDistinct, AllByRecursion}
-use Rattle.std.proofs.lemmas.Bool.{cases_order, ne_eqb, eqb-true, false≢true}
+use Rattle.std.proofs.Common.{◌≡◌, ◌≢◌, ℕ, zero, suc, ◌+◌, ◌-◌, ◌<◌, ◌≤◌, length, refl, sym, ◌∙◌, ap, subst, inl, inr, ◌⊎◌, arith, Some, slice_get}
+use Rattle.std.proofs.lemmas.Bool.{cases_order}
 use Rattle.std.proofs.lemmas.Option.{none-some, same_Some, get_or_from_slice_get}
-use Rattle.std.proofs.lemmas.Map.Steps.{length-le_from_distinct_below}
-use Rattle.std.proofs.lemmas.Map.Keys.{IsDistinct-cons}
+use Rattle.fab_graph.proofs.Counting.{counted_below}
 use Rattle.fab_model.specs.declared.rows.ChannelRow.{ChannelRow}
 use Rattle.fab_model.specs.Topology.{Topology}
 use Rattle.fab_model.specs.WellFormed.{IsWellFormed}
@@ -97,41 +95,15 @@ module _ (t : Topology) (e : Entries) (lid : ℕ) where
       go (inl x) less = less x
       go (inr x) less = (n, record { there = d; least = x })
 
-  far_next : (s c m : ℕ) → hop_at s ≡ Along c → IsFar s m → (n : ℕ) × (n < m) × IsFar (tip t c) n
-  far_next s c zero is far = absurd (loops (sym (along 0 s c is) ∙ far.there))
-  far_next s c (suc m) is far = (m, omega arith, record { there = sym (along (suc m) s c is) ∙ far.there; least = λ x. far.least (along m s c is ∙ x) })
-
-  -- the switches that were passed are the fabric's, and lie farther off
-  abbrev ArePassed : ℕ → List ℕ → Type 0
-  ArePassed m [] = Unit {0}
-  ArePassed m (q ∷ qs) = (q < length t.switches) × ((n : ℕ) × (m < n) × IsFar q n) × ArePassed m qs
-
-  passed_still : (m n : ℕ) (qs : List ℕ) → n < m → ArePassed m qs → ArePassed n qs
-  passed_still m n [] h p = tt
-  passed_still m n (q ∷ qs) h p = (p.0, (p.1.0, omega (arith, h, p.1.1), p.1.2), passed_still m n qs h p.2)
-
-  is_new : (s m : ℕ) (qs : List ℕ) → IsFar s m → ArePassed m qs → AllByRecursion (λ q. eqb s q ≡ false) qs
-  is_new s m [] far p = tt
-  is_new s m (q ∷ qs) far p = (ne_eqb s q (λ same. omega (arith, p.1.1, far_one s m p.1.0 far (subst (λ x. IsFar x p.1.0) (sym same) p.1.2))), is_new s m qs far p.2)
-
-  all_below : (m : ℕ) (qs : List ℕ) → ArePassed m qs → (x : ℕ) → list_any (eqb x) qs ≡ true → x < length t.switches
-  all_below m [] p x h = absurd (false≢true h)
-  all_below m (q ∷ qs) p x h = this_or_later (all_below m qs p.2 x) (eqb x q) refl h
+  -- where there are some, one less are on the route from the tip of the first
+  far_next : (s m : ℕ) → IsFar s (suc m) → (c : ℕ) × (hop_at s ≡ Along c) × IsFar (tip t c) m
+  far_next s m far = go (hop_at s) refl
     where
-      this_or_later : (list_any (eqb x) qs ≡ true → x < length t.switches) → (b : Bool) → eqb x q ≡ b → (b || list_any (eqb x) qs) ≡ true → x < length t.switches
-      this_or_later go true is y = omega (arith, eqb-true x q is, p.0)
-      this_or_later go false is y = go y
-
-  -- so they are fewer than the fabric's switches
-  few_passed : (s m : ℕ) (qs : List ℕ) → s < length t.switches → IsFar s m → IsDistinct eqb qs → ArePassed m qs → suc (length qs) ≤ length t.switches
-  few_passed s m qs low far distinct p = length-le_from_distinct_below (s ∷ qs) (length t.switches) (IsDistinct-cons eqb s qs (is_new s m qs far p) distinct) below
-    where
-      here_or_later : (x : ℕ) (b : Bool) → eqb x s ≡ b → (b || list_any (eqb x) qs) ≡ true → x < length t.switches
-      here_or_later x true is y = omega (arith, eqb-true x s is, low)
-      here_or_later x false is y = all_below m qs p x y
-
-      below : (x : ℕ) → list_any (eqb x) (s ∷ qs) ≡ true → x < length t.switches
-      below x y = here_or_later x (eqb x s) refl y
+      go : (hop : Hop) → hop_at s ≡ hop → (c : ℕ) × (hop_at s ≡ Along c) × IsFar (tip t c) m
+      go (Stop x) is =
+          absurd (far.least (ap (λ h. (after_hop t (λ next. route_within t e lid m next) h).end) is
+          ∙ sym (ap (λ h. (after_hop t (λ next. route_within t e lid (suc m) next) h).end) is) ∙ far.there))
+      go (Along c) is = (c, is, record { there = sym (along (suc m) s c is) ∙ far.there; least = λ x. far.least (along m s c is ∙ x) })
 
 module _ (t : Topology) (e : Entries) (lid : ℕ) (good : IsWellFormed t) where
   -- the tip of a channel that an entry goes along is a switch of the fabric
@@ -141,28 +113,21 @@ module _ (t : Topology) (e : Entries) (lid : ℕ) (good : IsWellFormed t) where
       found : (row : ChannelRow) × (c < length t.channels) × (slice_get t.channels c ≡ Some row) × (row.tail.0 ≡ s) × (row.port ≡ entry e s lid)
       found = channel_found t s (entry e s lid) c (along_channel t lid s (entry e s lid) c is)
 
-  delivered_soon : (n s m : ℕ) (qs : List ℕ) → s < length t.switches → IsFar t e lid s m → IsDistinct eqb qs → ArePassed t e lid m qs → length t.switches ≤ length qs + n →
-      end_within t e lid n s ≡ Delivered
-  delivered_soon zero s m qs low far distinct p enough = absurd (omega (arith, few_passed t e lid s m qs low far distinct p))
-  delivered_soon (suc n) s m qs low far distinct p enough = go (hop_at t e lid s) refl (λ next k xs a b c d f. delivered_soon n next k xs a b c d f)
+  -- so fewer channels than the fabric has switches are on it
+  abbrev IsFarHere : ℕ → ℕ → Type 0
+  IsFarHere s m = (s < length t.switches) × IsFar t e lid s m
+
+  few_far : (s m : ℕ) → s < length t.switches → IsFar t e lid s m → m < length t.switches
+  few_far s m low far = counted_below IsFarHere (length t.switches) (λ q m n x y. far_one t e lid q m n x.1 y.1) (λ q n x. x.0) next m s (low, far)
     where
-      go : (hop : Hop) → hop_at t e lid s ≡ hop →
-          ((next k : ℕ) (xs : List ℕ) → next < length t.switches → IsFar t e lid next k → IsDistinct eqb xs → ArePassed t e lid k xs → length t.switches ≤ length xs + n → end_within t e lid n next ≡ Delivered) →
-          end_within t e lid (suc n) s ≡ Delivered
-      go (Stop x) is rest =
-          ap (λ h. (after_hop t (λ next. route_within t e lid n next) h).end) is ∙ sym (ap (λ h. (after_hop t (λ next. route_within t e lid m next) h).end) is) ∙ far.there
-      go (Along c) is rest =
-          let near : (k : ℕ) × (k < m) × IsFar t e lid (tip t c) k = far_next t e lid s c m is far in
-          along t e lid n s c is
-          ∙ rest (tip t c) near.0 (s ∷ qs) (next_below s c is) near.2 (IsDistinct-cons eqb s qs (is_new t e lid s m qs far p) distinct)
-          (low, (m, near.1, far), passed_still t e lid m near.0 qs near.1 p) (omega arith)
+      next : (q n : ℕ) → IsFarHere q (suc n) → (r : ℕ) × IsFarHere r n
+      next q n x = let rest : (c : ℕ) × (hop_at t e lid q ≡ Along c) × IsFar t e lid (tip t c) n = far_next t e lid q n x.1 in (tip t rest.0, (next_below q rest.0 rest.1, rest.2))
 
   -- a route that is delivered at all is delivered before it is taken for a loop
   pub delivered_in_time : (n s : ℕ) → s < length t.switches → end_within t e lid n s ≡ Delivered → (route t e s lid).end ≡ Delivered
-  unfolding IsDistinct
   delivered_in_time n s low d =
       let far : (m : ℕ) × IsFar t e lid s m = far_there t e lid n s d in
-      delivered_soon (length t.switches) s far.0 [] low far.1 tt tt (omega arith)
+      still_delivered t e lid (suc far.0) (length t.switches) s (omega (arith, few_far s far.0 low far.1)) far.1.there
 
   pub delivered_before : (s k c : ℕ) → s < length t.switches → slice_get (route t e s lid).channels k ≡ Some c → (route t e (tip t c) lid).end ≡ Delivered → (route t e s lid).end ≡ Delivered
   delivered_before s k c low at d =

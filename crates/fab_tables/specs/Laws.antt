@@ -60,7 +60,7 @@ VerdictExists = (t : Topology) (e : Entries) (l : Option LaneTables) → IsFabri
 abbrev pub OneVerdict : Type 0
 OneVerdict = (t : Topology) (e : Entries) (l : Option LaneTables) (v w : Verdict) → IsVerdict t e l v → IsVerdict t e l w → v ≡ w
 
--- with lanes it has a refusal, or no fault that no numbers can mend
+-- with lanes it has a refusal, or all its faults are of numbers
 abbrev pub RefusalOrNone : Type 0
 RefusalOrNone = (t : Topology) (e : Entries) (l : LaneTables) → IsFabric t →
     ((v : Verdict) × IsRefusal t e l v) ⊎ ((place : List ℕ) (fault : Verdict) → IsStructural fault → ¬ IsFaultAt t e (Some l) place fault)
