@@ -3,8 +3,8 @@ use Rattle.std.specs.Prelude.{Contains}
 use Rattle.fab_rings.specs.Neighbours.{successors_of}
 use Rattle.fab_rings.specs.StrongComponents.{number_of}
 use Rattle.fab_rings.proofs.EdgesOf.{successors_low}
-use Rattle.fab_rings.proofs.ComponentWalks.{on_read, leads_on, leads_off}
-use Rattle.fab_rings.proofs.RingSteps.{ring_is_first, closed_low, one_more_off}
+use Rattle.fab_rings.proofs.Searching.ComponentWalks.{on_read, leads_on, leads_off}
+use Rattle.fab_rings.proofs.Returning.RingSteps.{ring_is_first, closed_low, one_more_off}
 use Rattle.fab_rings.proofs.rings.find_ring.Goals as goal
 
 pub leads_into-requires : goal.leads_into-requires

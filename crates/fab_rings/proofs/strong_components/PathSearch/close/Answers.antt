@@ -3,8 +3,8 @@ use Rattle.std.specs.Option.{option_to_list}
 use Rattle.std.proofs.lemmas.List.{take_rest, with_items_is}
 use Rattle.fab_rings.specs.declared.strong_components.Group.{Group}
 use Rattle.fab_rings.specs.PathSearch.{PathSearched, IsPathSearch, IsLast, IsDone, AreNumbered}
-use Rattle.fab_rings.proofs.NextHead.{one_last}
-use Rattle.fab_rings.proofs.Closing.{closed, opened_low, last_begins}
+use Rattle.fab_rings.proofs.Searching.NextHead.{one_last}
+use Rattle.fab_rings.proofs.Searching.Closing.{closed, opened_low, last_begins}
 use Rattle.fab_rings.proofs.strong_components.PathSearch.close.Goals as goal
 
 pub offset_bounds-deref-group : goal.offset_bounds-deref-group

@@ -3,9 +3,9 @@ use Rattle.std.specs.Prelude.{slice_index_or}
 use Rattle.std.proofs.lemmas.List.{get_or_read}
 use Rattle.fab_rings.specs.StrongComponents.{number_of}
 use Rattle.fab_rings.specs.PathSearch.{PathSearched, HasTaken}
-use Rattle.fab_rings.proofs.HeadTaken.{head_low, skipped}
-use Rattle.fab_rings.proofs.Joining.{joined_at}
-use Rattle.fab_rings.proofs.Finding.{found, no_more_work}
+use Rattle.fab_rings.proofs.Searching.HeadTaken.{head_low, skipped}
+use Rattle.fab_rings.proofs.Searching.Joining.{joined_at}
+use Rattle.fab_rings.proofs.Searching.Finding.{found, no_more_work}
 use Rattle.fab_rings.proofs.strong_components.PathSearch.look_at.Goals as goal
 
 pub returns-in_ok-find-clause-search : goal.returns-in_ok-find-clause-search

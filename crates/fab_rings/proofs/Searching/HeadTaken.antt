@@ -6,7 +6,7 @@ use Rattle.fab_graph.specs.Walks.{Walk, IsEdge}
 use Rattle.fab_rings.specs.declared.strong_components.Group.{Group}
 use Rattle.fab_rings.specs.StrongComponents.{Comes, number_of}
 use Rattle.fab_rings.specs.PathSearch.{PathSearched, IsAt, IsLookedAt, IsHeadFrom, IsPathSearch, HasTaken, with_head}
-use Rattle.fab_rings.proofs.Places.{at_front, at_end, from_push, in_pushed, all_front}
+use Rattle.fab_rings.proofs.Searching.Places.{at_front, at_end, from_push, in_pushed, all_front}
 
 -- walks one after the other
 pub walks_on : (R : ℕ → ℕ → Type 0) (n a b c m : ℕ) → Walk R n a b → Walk R m b c → Comes R a c

@@ -8,7 +8,7 @@ use Rattle.fab_graph.specs.Walks.{IsEdge}
 use Rattle.fab_rings.specs.declared.strong_components.Group.{Group}
 use Rattle.fab_rings.specs.StrongComponents.{Comes, number_of}
 use Rattle.fab_rings.specs.PathSearch.{PathSearched, IsAt, IsNoEarlier, IsLookedAt, IsHeadFrom, IsPathSearch, AreNumbered, with_closed}
-use Rattle.fab_rings.proofs.Places.{at_front, at_end, in_front, in_pushed, end_there, from_taken, taken, from_dropped, dropped}
+use Rattle.fab_rings.proofs.Searching.Places.{at_front, at_end, in_front, in_pushed, end_there, from_taken, taken, from_dropped, dropped}
 
 module _ (s : PathSearched) (before : IsPathSearch s) (front : List Group) (y : Group) (is : s.groups ≡ front ++ y ∷ []) (done : y.below ≡ length s.heads) (new : List ℕ)
     (numbered : AreNumbered (drop y.first s.opened) (s.closed + 1) s.components new) where

@@ -5,7 +5,7 @@ use Rattle.std.proofs.lemmas.Bool.{cases_eq}
 use Rattle.std.proofs.lemmas.List.{length-set, take_more}
 use Rattle.fab_rings.specs.StrongComponents.{number_of}
 use Rattle.fab_rings.specs.PathSearch.{AreNumbered}
-use Rattle.fab_rings.proofs.Places.{in_front, in_pushed, end_there}
+use Rattle.fab_rings.proofs.Searching.Places.{in_front, in_pushed, end_there}
 
 pub none_numbered : (number : ℕ) (old : List ℕ) → AreNumbered [] number old old
 none_numbered number old = record { each = refl; given = λ a has. absurd (omega (arith, has.1)); others = λ a. inl refl }

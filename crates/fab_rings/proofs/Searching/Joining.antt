@@ -8,8 +8,8 @@ use Rattle.fab_graph.specs.Walks.{IsEdge}
 use Rattle.fab_rings.specs.declared.strong_components.Group.{Group}
 use Rattle.fab_rings.specs.StrongComponents.{Comes, number_of}
 use Rattle.fab_rings.specs.PathSearch.{PathSearched, IsAt, IsNoEarlier, IsLookedAt, IsPathSearch, HasTaken, IsLast, AreJoined, with_head}
-use Rattle.fab_rings.proofs.Places.{at_front, at_end, in_front, in_either, only_one, some_last, all_front}
-use Rattle.fab_rings.proofs.HeadTaken.{comes_on, looked_front, leaves_front, waiting_front, comes_to_head}
+use Rattle.fab_rings.proofs.Searching.Places.{at_front, at_end, in_front, in_either, only_one, some_last, all_front}
+use Rattle.fab_rings.proofs.Searching.HeadTaken.{comes_on, looked_front, leaves_front, waiting_front, comes_to_head}
 
 module _ (s : PathSearched) (head : ℕ) (has_taken : HasTaken s head) (q : ℕ) (at_q : IsAt s.opened q head) (new : List Group) (joins : AreJoined s.groups new q) where
   abbrev before : IsPathSearch (with_head s head)

@@ -13,8 +13,8 @@ use Rattle.fab_rings.specs.StrongComponents.{Comes, number_of}
 use Rattle.fab_rings.specs.PathSearch.{PathSearched, IsAt, IsNoEarlier, IsLookedAt, IsHeadFrom, IsPathSearch, HasTaken, with_head, with_found, work_left}
 use Rattle.fab_rings.proofs.Times.{one_if, one_if_same, none_if_other, stands_there, counts_there}
 use Rattle.fab_rings.proofs.EdgesOf.{leaving, successor_edge, successor_there, successors_low}
-use Rattle.fab_rings.proofs.Places.{at_front, at_back, at_end, from_append, from_push, in_front, in_pushed, end_there, all_front}
-use Rattle.fab_rings.proofs.HeadTaken.{looked_front, leaves_front, waiting_front, comes_to_head, head_low}
+use Rattle.fab_rings.proofs.Searching.Places.{at_front, at_back, at_end, from_append, from_push, in_front, in_pushed, end_there, all_front}
+use Rattle.fab_rings.proofs.Searching.HeadTaken.{looked_front, leaves_front, waiting_front, comes_to_head, head_low}
 
 module _ (s : PathSearched) (head : ℕ) (has_taken : HasTaken s head) (none : number_of s.places head ≡ 0) where
   abbrev before : IsPathSearch (with_head s head)

@@ -6,8 +6,8 @@ use Rattle.std.proofs.lemmas.List.{length_push, nil_from_length}
 use Rattle.fab_rings.specs.declared.strong_components.Group.{Group}
 use Rattle.fab_rings.specs.StrongComponents.{AreStrongComponents}
 use Rattle.fab_rings.specs.PathSearch.{PathSearched, IsAt, IsPathSearch, HasTaken, IsLast}
-use Rattle.fab_rings.proofs.Places.{at_end, same_at, some_last}
-use Rattle.fab_rings.proofs.Starting.{ended}
+use Rattle.fab_rings.proofs.Searching.Places.{at_end, same_at, some_last}
+use Rattle.fab_rings.proofs.Searching.Starting.{ended}
 
 pub last_at : (groups : List Group) (y : Group) (last : IsLast groups y) → IsAt groups (length last.0) y
 last_at groups y last = subst (λ (gs : List Group). IsAt gs (length last.0) y) (sym last.1) (at_end last.0 y)
