@@ -11,6 +11,7 @@ use Rattle.fab_tables.specs.Certified.{Reaches, HasRisingNumbers, IsCertified}
 use Rattle.fab_tables.specs.Verdicts.{IsLaneFaultAt, IsFaultAt, IsVerdict}
 use Rattle.fab_tables.proofs.CertifiedLaws.{lanes_is_certified, routes_reaches}
 use Rattle.fab_tables.proofs.OneVerdict.{one_verdict}
+use Rattle.fab_tables.proofs.VerdictExists.{first_is_verdict}
 use Rattle.fab_tables.proofs.DeadlockLaws.{free_of_deadlock}
 use Rattle.fab_tables.specs.First.{IsBefore, IsFirst, FindsFirst}
 use Rattle.fab_tables.proofs.RouteFaults.{IsUnreached, unreached}
@@ -18,15 +19,6 @@ use Rattle.fab_tables.proofs.StartFaults.{IsOfLid, of_lid}
 use Rattle.fab_check.specs.Free.{IsFreeOfDeadlock}
 
 -- the first fault is the verdict
-pub first_is_verdict : (t : Topology) (e : Entries) (lanes : Option LaneTables) (fault : Verdict) → IsFirst (IsFaultAt t e lanes) fault → IsVerdict t e lanes fault
-first_is_verdict t e lanes Routes first = absurd first.1.2
-first_is_verdict t e lanes Lanes first = absurd first.1.2
-first_is_verdict t e lanes (Unreached lid s end) first = first
-first_is_verdict t e lanes (NoLevel lid source) first = first
-first_is_verdict t e lanes (BadLane lid source at) first = first
-first_is_verdict t e lanes (NoNumber lid source at) first = first
-first_is_verdict t e lanes (NotRising lid source first_hop second m n) first = first
-
 -- a fault of a route comes before those of the lanes
 module _ (t : Topology) (e : Entries) (lanes : Option LaneTables) where
   -- the faults of routes are the same whatever the lanes

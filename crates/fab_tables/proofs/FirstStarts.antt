@@ -10,7 +10,7 @@ use Rattle.fab_model.specs.declared.rows.TerminalRow.{TerminalRow}
 use Rattle.fab_model.specs.Topology.{Topology}
 use Rattle.fab_tables.specs.declared.starts.Start.{Start}
 use Rattle.fab_tables.specs.LaneTables.{LaneTables}
-use Rattle.fab_tables.specs.Starts.{start_of, StartsNotAfter, IsOfTerminal, AreStarts, AreFirsts, HasFirst, StandsFor, AreStartsFor, IsInOrder, StartLists, AreAllStarts}
+use Rattle.fab_tables.specs.Starts.{start_of, StartsNotAfter, IsOfTerminal, AreFirsts, HasFirst, StandsFor, AreStartsFor, IsInOrder, StartLists, AreAllStarts}
 
 -- the first starts of those so far, and the last source
 pub record AreFirstsSoFar (starts firsts : List Start) (index : ℕ) (source : Option SwitchId) : Type 0 where
