@@ -79,7 +79,7 @@ fn what_is_certified_is_checked_and_converted(rt: HostRuntime) -> Result<(), Fai
     );
     shelf.add("P", plan.bytes())?;
     assert_eq!(rt; status(alloc, &mut shelf, &mut verdict, "check", "P")?, 0);
-    assert_eq!(rt; verdict.bytes(), b"ok: routes and lanes\n");
+    assert_eq!(rt; verdict.bytes(), b"ok: routes and lanes\n".as_slice());
     assert_eq!(rt; status(alloc, &mut shelf, &mut again, "convert", "P")?, 0);
     assert_eq!(rt; again.bytes(), plan.bytes());
     Ok(())
@@ -95,7 +95,7 @@ fn faults_of_the_outside_pass(rt: HostRuntime) -> Result<(), Fail> {
     out.fail(2, 3)?;
     assert_eq!(rt; status(alloc, &mut shelf, &mut out, "convert", "LEVEL")?, 4);
     assert_eq!(rt; status(alloc, &mut shelf, &mut out, "convert", "LEVEL")?, 5);
-    assert_eq!(rt; out.bytes(), b"fabroute plan 2\nlanes 1\nUni");
+    assert_eq!(rt; out.bytes(), b"fabroute plan 2\nlanes 1\nUni".as_slice());
     assert_eq!(rt;
         status(alloc, &mut shelf, &mut whole, "convert", "LEVEL")?,
         0
