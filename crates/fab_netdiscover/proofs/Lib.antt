@@ -14,6 +14,4 @@ pub mod WrittenLines
 pub mod WrittenPorts
 pub mod WrittenBlocks
 pub mod WrittenFabric
-pub mod Texts
-pub mod ReadLines
-pub mod ReadTexts
+pub mod Examples

@@ -5,7 +5,7 @@ use Rattle.fab_rings.specs.declared.strong_components.Group.{Group}
 use Rattle.fab_rings.specs.EdgeList.{EdgeList, IsGraph}
 use Rattle.fab_rings.specs.Neighbours.{successors_of}
 use Rattle.fab_rings.specs.Layers.{times}
-use Rattle.fab_rings.specs.StrongComponents.{Comes, number_of}
+use Rattle.fab_rings.specs.StrongComponents.{Comes, value_of}
 
 -- the state of a search
 pub record PathSearched : Type 0 where
@@ -18,8 +18,8 @@ pub record PathSearched : Type 0 where
   pub closed : ℕ
 
 -- x stands at the place k
-abbrev pub IsAt : {A : Type 0} → List A → ℕ → A → Type 0
-IsAt xs k x = (k < length xs) × (slice_index_or xs k x ≡ x)
+abbrev pub HasAt : {A : Type 0} → List A → ℕ → A → Type 0
+HasAt xs k x = (k < length xs) × (slice_index_or xs k x ≡ x)
 
 -- the group of the place q is not before that of p
 abbrev pub IsNoEarlier : List Group → ℕ → ℕ → Type 0
@@ -32,12 +32,12 @@ IsKeptFor groups p t = (x : Group) → Contains groups x → x.first ≤ p → x
 -- an edge from the open node at p to b is waiting, or it leads to a closed node or into the same group or a later one
 abbrev pub IsLookedAt : PathSearched → ℕ → ℕ → Type 0
 IsLookedAt s p b =
-    (0 < number_of s.components b) ⊎ ((q : ℕ) × IsAt s.opened q b × IsNoEarlier s.groups p q) ⊎ ((t : ℕ) × IsAt s.heads t b × IsKeptFor s.groups p t)
+    (0 < value_of s.components b) ⊎ ((q : ℕ) × HasAt s.opened q b × IsNoEarlier s.groups p q) ⊎ ((t : ℕ) × HasAt s.heads t b × IsKeptFor s.groups p t)
 
 -- the head at t is that of an edge which leaves the group for which it is kept
 abbrev pub IsHeadFrom : PathSearched → ℕ → ℕ → Type 0
 IsHeadFrom s t b =
-    (a : ℕ) × (p : ℕ) × IsAt s.opened p a × IsEdge s.graph.edges a b × ((x : Group) → Contains s.groups x → (x.below ≤ t → x.first ≤ p) × (x.first ≤ p → x.below ≤ t))
+    (a : ℕ) × (p : ℕ) × HasAt s.opened p a × IsEdge s.graph.edges a b × ((x : Group) → Contains s.groups x → (x.below ≤ t → x.first ≤ p) × (x.first ≤ p → x.below ≤ t))
 
 -- A node is new, open or closed. Closed ones have the numbers of their components, from which edges lead to closed nodes alone. From each open node walks lead to all of its group and of later ones.
 pub record IsPathSearch (s : PathSearched) : Type 0 where
@@ -45,20 +45,20 @@ pub record IsPathSearch (s : PathSearched) : Type 0 where
   pub each_place : length s.places ≡ s.graph.nodes
   pub each_component : length s.components ≡ s.graph.nodes
   pub heads_low : All (λ b. b < s.graph.nodes) s.heads
-  pub placed : (a p : ℕ) → IsAt s.opened p a → (number_of s.places a ≡ p + 1) × (number_of s.components a ≡ 0)
-  pub is_open : (a : ℕ) → 0 < number_of s.places a → number_of s.components a ≡ 0 → (p : ℕ) × IsAt s.opened p a
-  pub is_new : (a : ℕ) → number_of s.places a ≡ 0 → number_of s.components a ≡ 0
-  pub low : (a : ℕ) → number_of s.components a ≤ s.closed
+  pub placed : (a p : ℕ) → HasAt s.opened p a → (value_of s.places a ≡ p + 1) × (value_of s.components a ≡ 0)
+  pub is_open : (a : ℕ) → 0 < value_of s.places a → value_of s.components a ≡ 0 → (p : ℕ) × HasAt s.opened p a
+  pub is_new : (a : ℕ) → value_of s.places a ≡ 0 → value_of s.components a ≡ 0
+  pub low : (a : ℕ) → value_of s.components a ≤ s.closed
   pub few : s.closed + length s.groups + times 0 s.places ≤ s.graph.nodes
-  pub reaches : (a b p q : ℕ) → IsAt s.opened p a → IsAt s.opened q b → IsNoEarlier s.groups p q → Comes (IsEdge s.graph.edges) a b
-  pub looked : (a b p : ℕ) → IsAt s.opened p a → IsEdge s.graph.edges a b → IsLookedAt s p b
-  pub leaves : (b t : ℕ) (y : Group) → IsAt s.heads t b → Contains s.groups y → y.below ≤ t → IsHeadFrom s t b
-  pub falls : (a b : ℕ) → 0 < number_of s.components a → IsEdge s.graph.edges a b → (0 < number_of s.components b) × (number_of s.components b ≤ number_of s.components a)
-  pub together : (a b : ℕ) → 0 < number_of s.components a → number_of s.components a ≡ number_of s.components b → Comes (IsEdge s.graph.edges) a b
+  pub reaches : (a b p q : ℕ) → HasAt s.opened p a → HasAt s.opened q b → IsNoEarlier s.groups p q → Comes (IsEdge s.graph.edges) a b
+  pub looked : (a b p : ℕ) → HasAt s.opened p a → IsEdge s.graph.edges a b → IsLookedAt s p b
+  pub leaves : (b t : ℕ) (y : Group) → HasAt s.heads t b → Contains s.groups y → y.below ≤ t → IsHeadFrom s t b
+  pub falls : (a b : ℕ) → 0 < value_of s.components a → IsEdge s.graph.edges a b → (0 < value_of s.components b) × (value_of s.components b ≤ value_of s.components a)
+  pub together : (a b : ℕ) → 0 < value_of s.components a → value_of s.components a ≡ value_of s.components b → Comes (IsEdge s.graph.edges) a b
   pub grouped : (p : ℕ) → p < length s.opened → (x : Group) × Contains s.groups x × (x.first ≤ p)
-  pub ordered : (i j : ℕ) (x y : Group) → IsAt s.groups i x → IsAt s.groups j y → i ≤ j → (x.first ≤ y.first) × (x.below ≤ y.below)
+  pub ordered : (i j : ℕ) (x y : Group) → HasAt s.groups i x → HasAt s.groups j y → i ≤ j → (x.first ≤ y.first) × (x.below ≤ y.below)
   pub within : (x : Group) → Contains s.groups x → (x.first ≤ length s.opened) × (x.below ≤ length s.heads)
-  pub waiting : (a : ℕ) → a < s.graph.nodes → (0 < number_of s.places a) ⊎ Contains s.heads a
+  pub waiting : (a : ℕ) → a < s.graph.nodes → (0 < value_of s.places a) ⊎ Contains s.heads a
 
 -- the search with one more head
 abbrev pub with_head : PathSearched → ℕ → PathSearched
@@ -78,8 +78,8 @@ abbrev pub IsLast : List Group → Group → Type 0
 IsLast groups y = (front : List Group) × (groups ≡ front ++ y ∷ [])
 
 -- all edges that leave the last group were looked at
-abbrev pub IsDone : PathSearched → Type 0
-IsDone s = (y : Group) × IsLast s.groups y × (y.below ≡ length s.heads)
+abbrev pub IsLastDone : PathSearched → Type 0
+IsLastDone s = (y : Group) × IsLast s.groups y × (y.below ≡ length s.heads)
 
 -- a new node is open, in a group of its own
 abbrev pub with_found : PathSearched → ℕ → PathSearched
@@ -104,5 +104,5 @@ pub record AreJoined (old new : List Group) (place : ℕ) : Type 0 where
 -- these nodes have this number, and the others what they had
 pub record AreNumbered (nodes : List ℕ) (number : ℕ) (old new : List ℕ) : Type 0 where
   pub each : length new ≡ length old
-  pub given : (a : ℕ) → Contains nodes a → number_of new a ≡ number
-  pub others : (a : ℕ) → (number_of new a ≡ number_of old a) ⊎ Contains nodes a
+  pub given : (a : ℕ) → Contains nodes a → value_of new a ≡ number
+  pub others : (a : ℕ) → (value_of new a ≡ value_of old a) ⊎ Contains nodes a

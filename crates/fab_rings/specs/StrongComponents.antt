@@ -7,13 +7,13 @@ use Rattle.fab_rings.specs.EdgeList.{EdgeList}
 abbrev pub Comes : (ℕ → ℕ → Type 0) → ℕ → ℕ → Type 0
 Comes R a b = (n : ℕ) × Walk R n a b
 
--- the number of a node, 0 where it has none
-abbrev pub number_of : List ℕ → ℕ → ℕ
-number_of numbers a = slice_index_or numbers a 0
+-- the value of a node in a list with one for each, 0 where it has none
+abbrev pub value_of : List ℕ → ℕ → ℕ
+value_of values a = slice_index_or values a 0
 
 -- Each node has the number of its component, from 1. Numbers never rise along an edge, and walks lead between any two nodes with the same one.
 pub record AreStrongComponents (g : EdgeList) (components : List ℕ) : Type 0 where
   pub each : length components ≡ g.nodes
-  pub some : (a : ℕ) → a < g.nodes → 0 < number_of components a
-  pub falls : (a b : ℕ) → IsEdge g.edges a b → number_of components b ≤ number_of components a
-  pub together : (a b : ℕ) → 0 < number_of components a → number_of components a ≡ number_of components b → Comes (IsEdge g.edges) a b
+  pub some : (a : ℕ) → a < g.nodes → 0 < value_of components a
+  pub falls : (a b : ℕ) → IsEdge g.edges a b → value_of components b ≤ value_of components a
+  pub together : (a b : ℕ) → 0 < value_of components a → value_of components a ≡ value_of components b → Comes (IsEdge g.edges) a b

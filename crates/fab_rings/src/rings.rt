@@ -12,7 +12,7 @@ ghost use Rattle.fab_graph.specs.Walks.{IsEdge, IsOnClosedWalk, IsAcyclic};
 ghost use Rattle.fab_graph.specs.Least.{IsLeast};
 ghost use Rattle.fab_graph.specs.Rings.{ReturnsByLeast, IsFirstRing};
 ghost use Rattle.fab_rings.specs.EdgeList.{IsGraph};
-ghost use Rattle.fab_rings.specs.StrongComponents.{number_of};
+ghost use Rattle.fab_rings.specs.StrongComponents.{value_of};
 ghost use Rattle.fab_rings.specs.Nearness.{near_of, AreNear, StandsAtDistance};
 
 use crate::graph::Graph;
@@ -59,8 +59,8 @@ pub(crate) fn find_ring(
 /// Whether one of these nodes is in a component.
 fn leads_into(nodes: &[u32], components: &[usize], component: usize) -> bool
     requires { All (λ b. b < length components.now) nodes.now }
-    ensures there { result ≡ true → (b : ℕ) × Contains nodes.now b × (number_of components.now b ≡ component) }
-    ensures nowhere { result ≡ false → (b : ℕ) → Contains nodes.now b → number_of components.now b ≢ component }
+    ensures there { result ≡ true → (b : ℕ) × Contains nodes.now b × (value_of components.now b ≡ component) }
+    ensures nowhere { result ≡ false → (b : ℕ) → Contains nodes.now b → value_of components.now b ≢ component }
 {
     for node in nodes {
         if components[*node as usize] == component {

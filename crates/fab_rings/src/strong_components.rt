@@ -24,7 +24,7 @@ ghost use Rattle.std.specs.List.{range_with_len};
 ghost use Rattle.fab_rings.specs.declared.strong_components.Group.{Group as Grouped};
 ghost use Rattle.fab_rings.specs.EdgeList.{IsGraph};
 ghost use Rattle.fab_rings.specs.StrongComponents.{AreStrongComponents};
-ghost use Rattle.fab_rings.specs.PathSearch.{IsPathSearch, HasTaken, work_left, IsLast, IsDone, with_found, AreJoined, AreNumbered};
+ghost use Rattle.fab_rings.specs.PathSearch.{IsPathSearch, HasTaken, work_left, IsLast, IsLastDone, with_found, AreJoined, AreNumbered};
 
 use crate::graph::Graph;
 use crate::neighbours::Successors;
@@ -126,7 +126,7 @@ impl<'s> PathSearch<'s> {
 
     /// Whether all edges that leave the last group were looked at.
     fn is_last_done(&self) -> bool
-        ensures done { result ≡ true → IsDone self.now }
+        ensures done { result ≡ true → IsLastDone self.now }
         ensures open_still { result ≡ false → (y : Grouped) → IsLast self.now.groups y → y.below ≢ length self.now.heads }
     {
         match self.groups.last() {
@@ -138,7 +138,7 @@ impl<'s> PathSearch<'s> {
     /// Closes the last group: no edge leads from it to another open node, so it is a component.
     fn close(&mut self)
         requires search { IsPathSearch self.old }
-        requires done { IsDone self.old }
+        requires done { IsLastDone self.old }
         ensures graph { self.new.graph ≡ self.old.graph }
         ensures search { IsPathSearch self.new }
         ensures less { work_left self.new < work_left self.old }

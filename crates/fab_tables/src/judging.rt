@@ -1,4 +1,8 @@
-// The hops of one route: whether their lanes and the numbers of their virtual channels are right.
+//! The hops of one route: whether their lanes are below the lane count, their virtual channels have numbers, and
+//! the numbers rise from hop to hop (Dally and Seitz).
+//!
+//! A walk goes on up to the first switch behind which all hops are judged, and one hop past it. Marking goes
+//! along the route once more, up to a switch that is marked. Both take no memory.
 ghost use Rattle.std.specs.Prelude.{◌≡◌, ◌<◌, ◌∷◌, [], None, IfSome, length};
 ghost use Rattle.fab_tables.specs.declared.end.End.TheVariants.{Delivered as delivery};
 ghost use Rattle.fab_tables.specs.LaneTables.{AreLaneTables};

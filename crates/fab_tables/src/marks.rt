@@ -1,4 +1,7 @@
-// Marks of switches and levels.
+//! Marks of switches and service levels. On the routes to one LID what follows behind a switch depends on the
+//! switch and the level alone, so a mark for both says that it is done, and a walk that comes there ends.
+//!
+//! A mark is set and read in constant time; taking all away takes the time of 16 marks for each switch.
 ghost use Rattle.std.specs.Prelude.{◌≡◌, ◌<◌, ◌+◌, ◌*◌, false, true, length, replicate, slice_index_or, slice_set, IfOk};
 ghost use Rattle.fab_tables.specs.Entries.{cell};
 ghost use Rattle.fab_tables.specs.Judged.{IsRoomFor};
@@ -33,20 +36,22 @@ impl Marks {
     }
 
     /// Takes all marks away.
-    pub(crate) fn clear(&mut self)
+    pub fn clear(&mut self)
         ensures { self.new ≡ replicate (length self.old) false }
     {
         self.marked.fill(false);
     }
 
-    pub(crate) fn is_marked(&self, s: SwitchId, level: u8) -> bool
+    /// Whether a switch is marked for a level.
+    pub fn is_marked(&self, s: SwitchId, level: u8) -> bool
         requires { s.0 * 16 + level < length self.now }
         ensures { result ≡ slice_index_or self.now (cell 16 s.0 level) false }
     {
         self.marked[s.0 as usize * 16 + level as usize]
     }
 
-    pub(crate) fn mark(&mut self, s: SwitchId, level: u8)
+    /// Marks a switch for a level.
+    pub fn mark(&mut self, s: SwitchId, level: u8)
         requires { s.0 * 16 + level < length self.old }
         ensures { self.new ≡ slice_set self.old (cell 16 s.0 level) true }
     {

@@ -131,7 +131,7 @@ high_solid (byte ∷ bytes) h =
 pub high_word : (bytes : List ℕ) → IsHigh bytes → 0 < length bytes → IsWord bytes
 high_word bytes h some = record { solid = high_solid bytes h; some = some }
 
-kept_word : (word : List ℕ) (others : List (List ℕ)) → 0 < length word → without_empty (word ∷ others) ≡ word ∷ without_empty others
+pub kept_word : (word : List ℕ) (others : List (List ℕ)) → 0 < length word → without_empty (word ∷ others) ≡ word ∷ without_empty others
 kept_word word others h = ap (λ empty. cond (not empty) (word ∷ without_empty others) (without_empty others)) (ne_eqb (length word) 0 (λ e. omega (arith, e)))
 
 -- a word in front of a space

@@ -1,10 +1,12 @@
 pub mod Appends
 pub mod Putting
-pub mod Leading
+pub mod Concluding
+pub mod OnBoth
 pub mod Running
 pub mod Judging
 pub mod Taking
 pub mod Certifying
 pub mod Wording
 pub mod ReadFits
+pub mod AfterFiles
 pub mod Answering

@@ -10,7 +10,7 @@ use Rattle.fab_top.specs.Words.{command_of}
 use Rattle.fab_top.specs.Answer.{Answer, unread}
 use Rattle.fab_top.specs.Seen.{seen, seen_failing, word_at}
 use Rattle.fab_top.specs.Answers.{IsAnswer}
-use Rattle.fab_top.specs.Outputs.{Output, NothingPut, WholePut, PrefixPut, HasFailed, HasMoreFaults}
+use Rattle.fab_top.specs.Outputs.{Output, NothingPut, WholePut, PrefixPut, IsInOrder, HasFailed, HasMoreFaults}
 use Rattle.fab_top.specs.Headline.{KeepsHeadline}
 
 -- the shelf by name, and the two outputs
@@ -58,7 +58,7 @@ pub record IsUnread (words : List (List ℕ)) (o : Outside) : Type 0 where
   pub err : PrefixPut (unread (word_at words place)).err o.err
   pub whole : WholePut (unread (word_at words place)).err o.err ⊎ HasFailed o.err
 
--- 5: an output failed, and both have a prefix of the answer's texts, first the output and then the error output
+-- 5: an output failed, and both have a prefix of the answer's texts, the error output only behind the whole text of the output
 pub record IsUnwritten (words : List (List ℕ)) (o : Outside) : Type 0 where
   pub failed : HasFailed o.out ⊎ HasFailed o.err
   pub answer : Answer
@@ -67,13 +67,15 @@ pub record IsUnwritten (words : List (List ℕ)) (o : Outside) : Type 0 where
   pub err : PrefixPut answer.err o.err
   pub whole : WholePut answer.out o.out ⊎ HasFailed o.out
   pub after_out : HasMoreFaults o.out → NothingPut o.err
+  pub in_order : IsInOrder answer.out o.out o.err
 
--- 6: nothing was put, or prefixes of the answer's texts, and then no file failed
+-- 6: nothing was put, or prefixes of the answer's texts in the same order, and then no file failed
 pub record IsCutShort (words : List (List ℕ)) (o : Outside) : Type 0 where
   pub answer : Answer
   pub is : IsAnswer (seen o.told words) answer
   pub out : PrefixPut answer.out o.out
   pub err : PrefixPut answer.err o.err
+  pub in_order : IsInOrder answer.out o.out o.err
   pub no_file_failed : ¬ FileHasMoreFaults words o
 
 abbrev pub IsOutOfMemory : List (List ℕ) → Outside → Type 0

@@ -1,3 +1,6 @@
+//! The commands that the words may ask for. Files are named by the places of their words, so that one name may stand
+//! for two files, as `-` does.
+
 /// What the words ask for. A file is named by the place of its word in the list of words, from 0.
 #[derive(Clone, Copy, Debug, PartialEq, Eq)]
 pub enum Command {

@@ -9,8 +9,6 @@ mod laws;
 mod outcome;
 mod outputs;
 #[cfg(test)]
-mod plan_tests;
-#[cfg(test)]
 mod tests;
 mod texts;
 mod top_call;

@@ -1,144 +1,104 @@
+//! What no clause says: that the commands succeed where memory is left, and that a fault of the outside passes with its
+//! run.
+
 use crate::run;
 use fab_io::{MemoryShelf, MemorySink};
 use std::alloc::Global;
 use std::process::Abort;
 use std::test::Fail;
 
-const ONE: &[u8] = b"Switch 4 \"S-0000000000000010\" # \"sw\" base port 0 lid 1 lmc 0
-[1] \"H-0000000000000020\"[1](20) # \"n0\" lid 2 4xSDR
-[2] \"H-0000000000000021\"[1](21) # \"n1\" lid 3 4xSDR
+// three switches in a row, and one terminal at the first
+const LINE: &[u8] = b"Switch 4 \"S-0000000000000010\" # \"a\" base port 0 lid 1 lmc 0
+[1] \"S-0000000000000011\"[1] # \"b\" lid 2
+[2] \"H-0000000000000020\"[1](20) # \"n0\" lid 4
+Switch 4 \"S-0000000000000011\" # \"b\" base port 0 lid 2 lmc 0
+[1] \"S-0000000000000010\"[1] # \"a\" lid 1
+[2] \"S-0000000000000012\"[1] # \"c\" lid 3
+Switch 4 \"S-0000000000000012\" # \"c\" base port 0 lid 3 lmc 0
+[1] \"S-0000000000000011\"[2] # \"b\" lid 2
 Ca 1 \"H-0000000000000020\" # \"n0\"
-[1](20) \"S-0000000000000010\"[1] # lid 2 lmc 0 \"sw\" lid 1 4xSDR
-Ca 1 \"H-0000000000000021\" # \"n1\"
-[1](21) \"S-0000000000000010\"[2] # lid 3 lmc 0 \"sw\" lid 1 4xSDR
+[1](20) \"S-0000000000000010\"[2] # lid 4 lmc 0 \"a\" lid 1
 ";
 
-const DUMP: &[u8] = b"Unicast lids [0x0001-0x0003] of switch Lid 1 guid 0x0000000000000010 (sw):
-0x0001 000 : (Switch portguid 0x0000000000000010: 'sw')
-0x0002 001 : (Channel Adapter portguid 0x0000000000000020: 'n0')
-0x0003 002 : (Channel Adapter portguid 0x0000000000000021: 'n1')
+// a plan whose numbers do not rise
+const LEVEL: &[u8] = b"fabroute plan 2
+lanes 1
+Unicast lids [0x0001-0x0004] of switch Lid 1 guid 0x0000000000000010 (a):
+0x0001 000 001 001 002
+Unicast lids [0x0001-0x0004] of switch Lid 2 guid 0x0000000000000011 (b):
+0x0001 001 000 002 001
+Unicast lids [0x0001-0x0004] of switch Lid 3 guid 0x0000000000000012 (c):
+0x0001 001 001 000 001
+Levels of switch guid 0x0000000000000010:
+0x0001 00 00 00 00
+Lane map of switch guid 0x0000000000000010:
+00 15 15 15 15 15 15 15 15 15 15 15 15 15 15 15
+Lane map of switch guid 0x0000000000000011:
+00 15 15 15 15 15 15 15 15 15 15 15 15 15 15 15
+Lane map of switch guid 0x0000000000000012:
+00 15 15 15 15 15 15 15 15 15 15 15 15 15 15 15
+Certificate:
+0x0000000000000010 001 00 1
+0x0000000000000011 002 00 1
+end plan
 ";
 
-const TWICE: &[u8] = b"Unicast lids [0x0001-0x0003] of switch Lid 1 guid 0x0000000000000010 (sw):
-0x0001 000 :
-0x0002 001 :
-0x0003 002 :
-0x0003 002 :
-";
-
-/// The words, parted by spaces, run over a shelf and fresh sinks.
-#[derive(Drop)]
-pub(crate) struct Run {
-    shelf: MemoryShelf,
-    out: MemorySink,
-    err: MemorySink,
+fn shelf_of_line(alloc: Global) -> Result<MemoryShelf, Fail> {
+    let mut shelf = MemoryShelf::new(alloc);
+    shelf.add("LINE", LINE)?;
+    shelf.add("LEVEL", LEVEL)?;
+    Ok(shelf)
 }
 
-impl Run {
-    pub(crate) fn new(alloc: Global) -> Result<Run, Fail> {
-        let mut shelf = MemoryShelf::new(alloc);
-        shelf.add("ONE", ONE)?;
-        shelf.add("DUMP", DUMP)?;
-        shelf.add("TWICE", TWICE)?;
-        shelf.add("EMPTY", b"")?;
-        Ok(Run {
-            shelf,
-            out: MemorySink::new(alloc),
-            err: MemorySink::new(alloc),
-        })
+/// The status of a command on a fabric and a plan.
+fn status(
+    alloc: Global,
+    shelf: &mut MemoryShelf,
+    out: &mut MemorySink,
+    command: &str,
+    plan: &str,
+) -> Result<u8, Fail> {
+    let mut words = Vec::new(alloc);
+    for word in [command, "LINE", plan] {
+        words.push(String::from_str(alloc, word)?)?;
     }
-
-    pub(crate) fn add(&mut self, name: &str, bytes: &[u8]) -> Result<(), Fail> {
-        self.shelf.add(name, bytes)?;
-        Ok(())
-    }
-
-    /// The put of this number to the output fails after so many bytes.
-    pub(crate) fn fail_out(&mut self, number: u32, bytes: usize) -> Result<(), Fail> {
-        self.out.fail(number, bytes)?;
-        Ok(())
-    }
-
-    pub(crate) fn status(&mut self, alloc: Global, words: &[&str]) -> Result<u8, Fail> {
-        let mut all = Vec::new(alloc);
-        for word in words {
-            all.push(String::from_str(alloc, word)?)?;
-        }
-        Ok(run(alloc, &all, &mut self.shelf, &mut self.out, &mut self.err))
-    }
-
-    pub(crate) fn tells(&self, rt: &impl Abort, out: &[u8], err: &[u8]) {
-        assert_eq!(rt; self.out.bytes(), out);
-        assert_eq!(rt; self.err.bytes(), err);
-    }
+    let mut err = MemorySink::new(alloc);
+    Ok(run(alloc, &words, shelf, out, &mut err))
 }
 
 #[test]
-fn a_plan_whose_routes_reach(rt: HostRuntime) -> Result<(), Fail> {
-    let mut one = Run::new(rt.alloc())?;
-    assert_eq!(rt; one.status(rt.alloc(), &["check", "ONE", "DUMP"])?, 0);
-    one.tells(&rt, b"ok: routes\n", b"");
-    Ok(())
-}
-
-#[test]
-fn a_plan_without_entries(rt: HostRuntime) -> Result<(), Fail> {
-    let mut one = Run::new(rt.alloc())?;
-    assert_eq!(rt; one.status(rt.alloc(), &["check", "ONE", "EMPTY"])?, 1);
-    one.tells(
-        &rt,
-        b"",
-        b"no: lid 0x0001 from switch 0x0000000000000010: no entry\n",
+fn what_is_certified_is_checked_and_converted(rt: HostRuntime) -> Result<(), Fail> {
+    let alloc = rt.alloc();
+    let mut shelf = shelf_of_line(alloc)?;
+    let mut plan = MemorySink::new(alloc);
+    let mut verdict = MemorySink::new(alloc);
+    let mut again = MemorySink::new(alloc);
+    assert_eq!(rt;
+        status(alloc, &mut shelf, &mut plan, "certify", "LEVEL")?,
+        0
     );
+    shelf.add("P", plan.bytes())?;
+    assert_eq!(rt; status(alloc, &mut shelf, &mut verdict, "check", "P")?, 0);
+    assert_eq!(rt; verdict.bytes(), b"ok: routes and lanes\n".as_slice());
+    assert_eq!(rt; status(alloc, &mut shelf, &mut again, "convert", "P")?, 0);
+    assert_eq!(rt; again.bytes(), plan.bytes());
     Ok(())
 }
 
 #[test]
-fn files_that_are_refused(rt: HostRuntime) -> Result<(), Fail> {
-    let mut first = Run::new(rt.alloc())?;
-    assert_eq!(rt; first.status(rt.alloc(), &["check", "EMPTY", "DUMP"])?, 3);
-    first.tells(&rt, b"", b"EMPTY: no switch\n");
-    let mut second = Run::new(rt.alloc())?;
-    assert_eq!(rt; second.status(rt.alloc(), &["check", "ONE", "TWICE"])?, 3);
-    second.tells(&rt, b"", b"TWICE:5: row given twice\n");
-    Ok(())
-}
-
-#[test]
-fn a_file_that_cannot_be_read(rt: HostRuntime) -> Result<(), Fail> {
-    let mut one = Run::new(rt.alloc())?;
-    one.shelf.add("a", ONE)?;
-    one.shelf.add("b", DUMP)?;
-    one.shelf.fail(1)?;
-    assert_eq!(rt; one.status(rt.alloc(), &["check", "a", "b"])?, 4);
-    one.tells(&rt, b"", b"a: cannot be read\n");
-    Ok(())
-}
-
-#[test]
-fn no_words(rt: HostRuntime) -> Result<(), Fail> {
-    let mut one = Run::new(rt.alloc())?;
-    assert_eq!(rt; one.status(rt.alloc(), &[])?, 2);
-    assert_eq!(rt; one.out.bytes().len(), 0);
-    assert!(rt;
-        one.err.bytes().starts_with(
-            b"usage: fabroute check FABRIC PLAN\n       fabroute route minhop|dor|sssp FABRIC\n"
-        )
+fn faults_of_the_outside_pass(rt: HostRuntime) -> Result<(), Fail> {
+    let alloc = rt.alloc();
+    let mut shelf = shelf_of_line(alloc)?;
+    let mut out = MemorySink::new(alloc);
+    let mut whole = MemorySink::new(alloc);
+    shelf.fail(2)?;
+    out.fail(2, 3)?;
+    assert_eq!(rt; status(alloc, &mut shelf, &mut out, "convert", "LEVEL")?, 4);
+    assert_eq!(rt; status(alloc, &mut shelf, &mut out, "convert", "LEVEL")?, 5);
+    assert_eq!(rt; out.bytes(), b"fabroute plan 2\nlanes 1\nUni".as_slice());
+    assert_eq!(rt;
+        status(alloc, &mut shelf, &mut whole, "convert", "LEVEL")?,
+        0
     );
-    let mut flag = Run::new(rt.alloc())?;
-    assert_eq!(rt; flag.status(rt.alloc(), &["check", "--ONE", "DUMP"])?, 2);
-    Ok(())
-}
-
-#[test]
-fn outputs_that_cannot_be_written(rt: HostRuntime) -> Result<(), Fail> {
-    let mut usage = Run::new(rt.alloc())?;
-    usage.err.fail(1, 3)?;
-    assert_eq!(rt; usage.status(rt.alloc(), &[])?, 5);
-    usage.tells(&rt, b"", b"usa");
-    let mut verdict = Run::new(rt.alloc())?;
-    verdict.out.fail(1, 3)?;
-    assert_eq!(rt; verdict.status(rt.alloc(), &["check", "ONE", "DUMP"])?, 5);
-    verdict.tells(&rt, b"ok:", b"");
     Ok(())
 }

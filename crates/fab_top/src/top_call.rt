@@ -1,6 +1,9 @@
+//! The top call: what the program does but for reaching the outside. Words are read, the command that they spell
+//! takes its files and finds its answer, and the answer's texts are put, that of the output first. Statuses are the
+//! usual ones of a command: 0 done, 1 no, 2 unknown words, 3 a refusal, 4 to 6 a fault of the outside.
 ghost use Rattle.std.specs.Prelude.{◌≡◌, None, Some};
 ghost use Rattle.fab_top.specs.Words.{texts, command_of};
-ghost use Rattle.fab_top.specs.Outcomes.{Leads};
+ghost use Rattle.fab_top.specs.Outcomes.{Obeys};
 ghost use Rattle.fab_top.specs.Outputs.{PutsUnread};
 ghost use Rattle.fab_top.specs.Ran.{Ran};
 ghost use Rattle.fab_top.specs.Usage.{usage_text};
@@ -50,7 +53,7 @@ fn obey<F: Shelf>(
     command: Command,
 ) -> Result<Outcome, Stop>
     requires { command_of (texts words.now) ≡ Some command }
-    ensures { Leads command (texts words.now) (F.told shelf.old) (F.faults shelf.old) (F.faults shelf.new) result }
+    ensures { Obeys command (texts words.now) (F.told shelf.old) (F.faults shelf.old) (F.faults shelf.new) result }
 {
     match command {
         Command::Check { fabric, plan } => check(alloc, words, shelf, fabric, plan),
@@ -73,7 +76,11 @@ fn put_unread<E: Sink>(alloc: Global, name: &str, err: &mut E) -> u8
 }
 
 /// Does all that the program does: reads the words, without the program's own name, fetches the files that
-/// they name, puts the answer to the outputs, and answers the status.
+/// they name, puts the answer to the outputs, and answers the status. The error output gets something only
+/// behind the whole text of the output.
+///
+/// A file's text stands in memory only while it is read, and the text of a plan that is put never does as a
+/// whole. Time and memory beyond are those of the calls for reading, checking, certifying and writing.
 pub fn run<F: Shelf, O: Sink, E: Sink>(
     alloc: Global,
     words: &[String],
@@ -98,6 +105,7 @@ pub fn run<F: Shelf, O: Sink, E: Sink>(
     };
     match obey(alloc, words, shelf, command) {
         Ok(outcome) => put_outcome(alloc, out, err, outcome),
+        Err(Stop::Refused(text)) => put_answer(out, err, 3, b"", &text),
         Err(Stop::Unread(place)) => put_unread(alloc, words[place].as_str(), err),
         Err(Stop::Memory(_)) => 6,
     }

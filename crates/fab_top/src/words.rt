@@ -1,3 +1,5 @@
+//! The grammar of the words, without the program's own name. A command is found by its first word, in time that the
+//! length of the words gives.
 ghost use Rattle.std.specs.Prelude.{◌≡◌};
 ghost use Rattle.fab_top.specs.Words.{texts, command_of, is_file, are_two_files};
 ghost use Rattle.fab_top.specs.ReadWords.{or_unknown, wants_memory};
@@ -36,10 +38,9 @@ fn are_two_files(others: &[String]) -> bool
 
 /// The command that the words ask for, the program's own name left out. They are refused exactly where they
 /// are not in the grammar.
-pub fn read_words(alloc: Global, words: &[String]) -> Result<Command, WordsFault>
+pub fn read_words(_alloc: Global, words: &[String]) -> Result<Command, WordsFault>
     ensures { Gives wants_memory result (or_unknown (command_of (texts words.now))) }
 {
-    let _ = alloc;
     match words {
         [name, others @ ..] if are_two_files(others) => match name.as_str() {
             "check" => Ok(Command::Check { fabric: 1, plan: 2 }),

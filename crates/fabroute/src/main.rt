@@ -4,16 +4,40 @@
 use fab_io::{FileShelf, StreamSink};
 use fab_top::run;
 use std::alloc::AllocError;
-use std::env;
+use std::env::{self, FillError};
 use std::io::ErrorKind;
 use std::process::ExitCode;
+use std::rt::Env;
+
+/// What a runtime tells of its words, but for the program's own name, which is never looked at.
+#[derive(Clone, Copy)]
+struct BehindName<'r> {
+    rt: &'r HostRuntime,
+}
+
+impl<'r> Env for BehindName<'r> {
+    fn arg(&self, i: usize, buf: &mut [u8]) -> Result<usize, FillError> {
+        match i.checked_add(1) {
+            Some(number) => self.rt.arg(number, buf),
+            None => Err(FillError::NotPresent),
+        }
+    }
+
+    fn var(&self, name: &str, buf: &mut [u8]) -> Result<usize, FillError> {
+        self.rt.var(name, buf)
+    }
+
+    fn var_at(&self, i: usize, buf: &mut [u8]) -> Result<usize, FillError> {
+        self.rt.var_at(i, buf)
+    }
+}
 
 /// The words behind the program's own name; none at all where one of them isn't UTF-8.
 fn words_of(rt: &HostRuntime) -> Result<Vec<String>, AllocError> {
     let mut words = Vec::new(rt.alloc());
-    match env::args(rt) {
+    match env::args(&(BehindName { rt }, rt.alloc())) {
         Ok(all) => {
-            for word in all.skip(1) {
+            for word in all {
                 words.push(word).map_err(|_| AllocError)?;
             }
         }

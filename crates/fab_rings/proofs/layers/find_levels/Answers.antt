@@ -1,7 +1,7 @@
 use Rattle.std.proofs.Common.{◌<◌, ◌∙◌, ℕ, length, slice_index_or, ap, sym, arith}
 use Rattle.std.proofs.lemmas.Bool.{eqb-true, eqb-false}
 use Rattle.fab_rings.specs.Layers.{level_of}
-use Rattle.fab_rings.proofs.ClosedWalks.{closed_behind, all_taken}
+use Rattle.fab_rings.proofs.Layering.ClosedWalks.{closed_behind, all_taken}
 use Rattle.fab_rings.proofs.layers.find_levels.Goals as goal
 
 pub returns-then-contains : goal.returns-then-contains

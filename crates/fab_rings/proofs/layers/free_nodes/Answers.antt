@@ -1,4 +1,4 @@
-use Rattle.fab_rings.proofs.FreeNodes.{free_more, free_same, all_free}
+use Rattle.fab_rings.proofs.Layering.FreeNodes.{free_more, free_same, all_free}
 use Rattle.fab_rings.proofs.layers.free_nodes.Goals as goal
 use Rattle.fab_rings.proofs.layers.free_nodes.Goals.{then-left-node-eq0+in_ok-push, else-left-node-eq0}
 

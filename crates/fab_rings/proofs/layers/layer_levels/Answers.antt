@@ -3,7 +3,7 @@ use Rattle.std.proofs.lemmas.Bool.{eqb-true, eqb-false}
 use Rattle.std.proofs.lemmas.List.{with_items_is, nil_from_length}
 use Rattle.fab_rings.specs.EdgeList.{IsGraph}
 use Rattle.fab_rings.specs.Layers.{untaken, IsTaking}
-use Rattle.fab_rings.proofs.NextLayer.{all_untaken, first_layer, some_untaken, next_layer, layers_done}
+use Rattle.fab_rings.proofs.Layering.NextLayer.{all_untaken, first_layer, some_untaken, next_layer, layers_done}
 use Rattle.fab_rings.proofs.layers.layer_levels.Goals as goal
 
 pub loop-alloc-init : goal.loop-alloc-init

@@ -1,5 +1,5 @@
 use Rattle.std.proofs.Common.{◌<◌, length, slice_index_or}
-use Rattle.fab_rings.proofs.TakingEdges.{one_left, frees, keeps_waiting}
+use Rattle.fab_rings.proofs.Layering.TakingEdges.{one_left, frees, keeps_waiting}
 use Rattle.fab_rings.proofs.layers.take_edges.Goals as goal
 use Rattle.fab_rings.proofs.layers.take_edges.Goals.{then-left-node-eq0+in_ok-push, else-left-node-eq0}
 

@@ -2,7 +2,7 @@ use Rattle.std.proofs.Common.{◌∷◌, ◌+◌, drop, slice_index_or, subst, a
 use Rattle.std.proofs.lemmas.List.{drop_more}
 use Rattle.fab_rings.specs.Layers.{IsTaking}
 use Rattle.fab_rings.proofs.EdgesOf.{successors_low}
-use Rattle.fab_rings.proofs.TakingNodes.{first_low, enough_left, fewer, takes_first}
+use Rattle.fab_rings.proofs.Layering.TakingNodes.{first_low, enough_left, fewer, takes_first}
 use Rattle.fab_rings.proofs.layers.take_layer.Goals as goal
 
 pub bounds-levels-node : goal.bounds-levels-node

@@ -3,7 +3,7 @@ use Rattle.std.proofs.lemmas.Bool.{eqb-true, eqb-false}
 use Rattle.std.proofs.lemmas.List.{with_items_is, nil_from_length}
 use Rattle.fab_rings.specs.Layers.{times}
 use Rattle.fab_rings.specs.Nearness.{IsReaching}
-use Rattle.fab_rings.proofs.ReachingLayers.{next_distance, all_reached}
+use Rattle.fab_rings.proofs.Returning.ReachingLayers.{next_distance, all_reached}
 use Rattle.fab_rings.proofs.nearness.nearness.Goals as goal
 
 pub loop-alloc-preserved : goal.loop-alloc-preserved

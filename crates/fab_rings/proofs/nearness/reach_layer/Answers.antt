@@ -3,7 +3,7 @@ use Rattle.std.proofs.lemmas.List.{drop_more, drop_all}
 use Rattle.fab_rings.specs.Neighbours.{predecessors_of}
 use Rattle.fab_rings.specs.Nearness.{IsReaching, ReachesTails}
 use Rattle.fab_rings.proofs.EdgesOf.{predecessors_low}
-use Rattle.fab_rings.proofs.ReachingLayers.{reaches_first, next_low}
+use Rattle.fab_rings.proofs.Returning.ReachingLayers.{reaches_first, next_low}
 use Rattle.fab_rings.proofs.nearness.reach_layer.Goals as goal
 
 pub reach_tails-requires-clause-nodes : goal.reach_tails-requires-clause-nodes

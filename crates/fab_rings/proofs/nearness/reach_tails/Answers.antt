@@ -1,5 +1,5 @@
 use Rattle.std.proofs.Common.{◌<◌, length, slice_index_or}
-use Rattle.fab_rings.proofs.ReachingTails.{reaches_none, reaches_new, reaches_old}
+use Rattle.fab_rings.proofs.Returning.ReachingTails.{reaches_none, reaches_new, reaches_old}
 use Rattle.fab_rings.proofs.nearness.reach_tails.Goals as goal
 use Rattle.fab_rings.proofs.nearness.reach_tails.Goals.{then-near-node-eq0+in_ok-push, else-near-node-eq0}
 

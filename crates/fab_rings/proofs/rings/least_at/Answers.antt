@@ -1,4 +1,4 @@
-use Rattle.fab_rings.proofs.LeastAt.{passed, takes_lesser, takes_first}
+use Rattle.fab_rings.proofs.Returning.LeastAt.{passed, takes_lesser, takes_first}
 use Rattle.fab_rings.proofs.rings.least_at.Goals as goal
 use Rattle.fab_rings.proofs.rings.least_at.Goals.{then-near-node+in-Some, then-near-node+in-None, else-near-node}
 

@@ -1,4 +1,4 @@
-use Rattle.fab_rings.proofs.RingSteps.{near_itself}
+use Rattle.fab_rings.proofs.Returning.RingSteps.{near_itself}
 use Rattle.fab_rings.proofs.rings.ring_at.Goals as goal
 
 pub ring_from-requires-clause-closed : goal.ring_from-requires-clause-closed

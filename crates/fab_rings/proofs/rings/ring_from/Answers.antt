@@ -5,7 +5,7 @@ use Rattle.fab_graph.specs.Least.{IsLeast}
 use Rattle.fab_rings.specs.Neighbours.{successors_of}
 use Rattle.fab_rings.specs.Nearness.{near_of, StandsAtDistance}
 use Rattle.fab_rings.proofs.EdgesOf.{successors_low}
-use Rattle.fab_rings.proofs.RingSteps.{near_low, ring_begins, some_nearer, ring_goes_on, ring_ends}
+use Rattle.fab_rings.proofs.Returning.RingSteps.{near_low, ring_begins, some_nearer, ring_goes_on, ring_ends}
 use Rattle.fab_rings.proofs.rings.ring_from.Goals as goal
 
 pub loop-distance-init : goal.loop-distance-init

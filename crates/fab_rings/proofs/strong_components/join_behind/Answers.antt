@@ -1,6 +1,6 @@
 use Rattle.std.proofs.Common.{◌≡◌, ◌-◌, ◌<◌, length, Some, ◌∙◌, refl, sym, ap, arith}
 use Rattle.std.specs.Prelude.{slice_index_or}
-use Rattle.fab_rings.proofs.Joining.{one_more_gone}
+use Rattle.fab_rings.proofs.Searching.Joining.{one_more_gone}
 use Rattle.fab_rings.proofs.strong_components.join_behind.Goals as goal
 
 pub loop-group-preserved : goal.loop-group-preserved

@@ -1,4 +1,4 @@
-use Rattle.fab_rings.proofs.Numbered.{none_numbered, next_numbered}
+use Rattle.fab_rings.proofs.Searching.Numbered.{none_numbered, next_numbered}
 use Rattle.fab_rings.proofs.strong_components.set_numbers.Goals as goal
 
 pub loop-node-init : goal.loop-node-init

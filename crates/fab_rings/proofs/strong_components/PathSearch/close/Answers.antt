@@ -2,9 +2,9 @@ use Rattle.std.proofs.Common.{◌≡◌, ℕ, ◌+◌, ◌<◌, ◌≤◌, ◌++
 use Rattle.std.specs.Option.{option_to_list}
 use Rattle.std.proofs.lemmas.List.{take_rest, with_items_is}
 use Rattle.fab_rings.specs.declared.strong_components.Group.{Group}
-use Rattle.fab_rings.specs.PathSearch.{PathSearched, IsPathSearch, IsLast, IsDone, AreNumbered}
-use Rattle.fab_rings.proofs.NextHead.{one_last}
-use Rattle.fab_rings.proofs.Closing.{closed, opened_low, last_begins}
+use Rattle.fab_rings.specs.PathSearch.{PathSearched, IsPathSearch, IsLast, IsLastDone, AreNumbered}
+use Rattle.fab_rings.proofs.Searching.NextHead.{one_last}
+use Rattle.fab_rings.proofs.Searching.Closing.{closed, opened_low, last_begins}
 use Rattle.fab_rings.proofs.strong_components.PathSearch.close.Goals as goal
 
 pub offset_bounds-deref-group : goal.offset_bounds-deref-group
@@ -47,7 +47,7 @@ returns-clause-search c =
     let i = c.self.inside in
     let s : PathSearched = record { graph = i.successors.now; places = i.places.items; components = i.components.items; opened = i.opened.items; groups = i.groups.items; heads = i.heads.items; closed = i.closed } in
     let searched : IsPathSearch s = subst IsPathSearch (sym c.self.view_is) c.requires.search in
-    let is_done : IsDone s = subst IsDone (sym c.self.view_is) c.requires.done in
+    let is_done : IsLastDone s = subst IsLastDone (sym c.self.view_is) c.requires.done in
     let y = c.unwrap-group.result in
     let front = c.pop.new.self.items in
     let last : IsLast s.groups y = (front, c.pop.ensures.items ∙ ap (λ o. front ++ option_to_list o) c.unwrap-group.ensures) in

@@ -1,5 +1,5 @@
 use Rattle.std.proofs.Common.{◌≡◌, ℕ, replicate, ◌∙◌, ap}
-use Rattle.fab_rings.proofs.Starting.{started}
+use Rattle.fab_rings.proofs.Searching.Starting.{started}
 use Rattle.fab_rings.proofs.strong_components.PathSearch.new.Goals as goal
 
 pub returns-clause-search : goal.returns-clause-search

@@ -1,7 +1,7 @@
 use Rattle.std.proofs.Common.{◌≢◌, length, sym, subst}
 use Rattle.fab_rings.specs.declared.strong_components.Group.{Group}
 use Rattle.fab_rings.specs.PathSearch.{PathSearched, IsPathSearch, IsLast}
-use Rattle.fab_rings.proofs.NextHead.{next}
+use Rattle.fab_rings.proofs.Searching.NextHead.{next}
 use Rattle.fab_rings.proofs.strong_components.PathSearch.next_head.Goals as goal
 
 pub returns-clause-next : goal.returns-clause-next

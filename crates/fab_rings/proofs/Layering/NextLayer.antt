@@ -9,9 +9,9 @@ use Rattle.fab_rings.specs.EdgeList.{EdgeList, IsGraph}
 use Rattle.fab_rings.specs.Layers.{times, times_ready, untaken, level_of, left_of, edges_left, IsTaking, AreLayers}
 use Rattle.fab_rings.proofs.Times.{counts_there, ready_now, ready_not_left}
 use Rattle.fab_rings.proofs.EdgesOf.{ends_low}
-use Rattle.fab_rings.proofs.EdgesLeft.{some_left, none_left}
-use Rattle.fab_rings.proofs.TakingNodes.{is_ready, first_ready, first_low}
-use Rattle.fab_rings.proofs.FreeNodes.{level_at_first}
+use Rattle.fab_rings.proofs.Layering.EdgesLeft.{some_left, none_left}
+use Rattle.fab_rings.proofs.Layering.TakingNodes.{is_ready, first_ready, first_low}
+use Rattle.fab_rings.proofs.Layering.FreeNodes.{level_at_first}
 
 module _ (g : EdgeList) (kept : IsGraph g) where
   abbrev none_taken : List ℕ

@@ -8,8 +8,8 @@ use Rattle.std.proofs.lemmas.List.FromFn.{length-range_with_len, get_or-range_wi
 use Rattle.std.proofs.lemmas.List.Folds.{sum_by-replicate}
 use Rattle.fab_rings.specs.declared.strong_components.Group.{Group}
 use Rattle.fab_rings.specs.EdgeList.{EdgeList, IsGraph}
-use Rattle.fab_rings.specs.StrongComponents.{number_of, AreStrongComponents}
-use Rattle.fab_rings.specs.PathSearch.{PathSearched, IsAt, IsPathSearch}
+use Rattle.fab_rings.specs.StrongComponents.{value_of, AreStrongComponents}
+use Rattle.fab_rings.specs.PathSearch.{PathSearched, HasAt, IsPathSearch}
 use Rattle.fab_rings.proofs.Times.{one_if}
 use Rattle.fab_rings.proofs.EdgesOf.{ends_low}
 
@@ -17,7 +17,7 @@ module _ (g : EdgeList) (kept : IsGraph g) where
   abbrev start : PathSearched
   start = record { graph = g; places = replicate g.nodes 0; components = replicate g.nodes 0; opened = []; groups = []; heads = range_with_len 0 g.nodes; closed = 0 }
 
-  no_number : (a : ℕ) → number_of (replicate g.nodes 0) a ≡ 0
+  no_number : (a : ℕ) → value_of (replicate g.nodes 0) a ≡ 0
   no_number a = elim (cases_lt a g.nodes) [ inl low ↦ get_or-replicate {A = ℕ} g.nodes a 0 0 low | inr past ↦ get_or_past {X = ℕ} (replicate g.nodes 0) a 0 (omega (arith, length-replicate {A = ℕ} g.nodes 0, past)) ]
 
   pub started : IsPathSearch start
@@ -49,12 +49,12 @@ module _ (s : PathSearched) (searched : IsPathSearch s) (no_group : s.groups ≡
   none_in : {A : Type 0} (xs : List A) → xs ≡ [] → (x : A) → Contains xs x → ⊥
   none_in xs none x has = omega (arith, has.1, ap length none)
 
-  all_closed : (a : ℕ) → a < s.graph.nodes → 0 < number_of s.components a
-  all_closed a low = elim (cases_lt 0 (number_of s.components a)) [
+  all_closed : (a : ℕ) → a < s.graph.nodes → 0 < value_of s.components a
+  all_closed a low = elim (cases_lt 0 (value_of s.components a)) [
     | inl closed ↦ closed
     | inr not ↦ elim (searched.waiting a low) [
       | inl placed ↦
-          (let open_at : (p : ℕ) × IsAt s.opened p a = searched.is_open a placed (omega (arith, not)) in
+          (let open_at : (p : ℕ) × HasAt s.opened p a = searched.is_open a placed (omega (arith, not)) in
           let x : (x : Group) × Contains s.groups x × (x.first ≤ open_at.0) = searched.grouped open_at.0 open_at.1.0 in
           absurd (none_in s.groups no_group x.0 x.1))
       | inr has ↦ absurd (none_in s.heads no_head a has)

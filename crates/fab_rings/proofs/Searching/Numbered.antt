@@ -3,9 +3,9 @@ use Rattle.std.proofs.Common.{◌≡◌, ◌≢◌, ℕ, ◌+◌, ◌<◌, List,
 use Rattle.std.specs.Prelude.{Contains, slice_index_or, slice_set}
 use Rattle.std.proofs.lemmas.Bool.{cases_eq}
 use Rattle.std.proofs.lemmas.List.{length-set, take_more}
-use Rattle.fab_rings.specs.StrongComponents.{number_of}
+use Rattle.fab_rings.specs.StrongComponents.{value_of}
 use Rattle.fab_rings.specs.PathSearch.{AreNumbered}
-use Rattle.fab_rings.proofs.Places.{in_front, in_pushed, end_there}
+use Rattle.fab_rings.proofs.Searching.Places.{in_front, in_pushed, end_there}
 
 pub none_numbered : (number : ℕ) (old : List ℕ) → AreNumbered [] number old old
 none_numbered number old = record { each = refl; given = λ a has. absurd (omega (arith, has.1)); others = λ a. inl refl }
@@ -17,25 +17,25 @@ module _ (nodes : List ℕ) (number : ℕ) (old numbers : List ℕ) (i : ℕ) (l
   abbrev new : List ℕ
   new = slice_set numbers x number
 
-  at_x : number_of new x ≡ number
+  at_x : value_of new x ≡ number
   at_x = get_or-set_same numbers x number 0 (omega (arith, within, so_far.each))
 
-  elsewhere : (a : ℕ) → a ≢ x → number_of new a ≡ number_of numbers a
+  elsewhere : (a : ℕ) → a ≢ x → value_of new a ≡ value_of numbers a
   elsewhere a ne = get_or-set_other numbers x a number 0 ne
 
   more : take (i + 1) nodes ≡ take i nodes ++ x ∷ []
   more = take_more nodes i 0 low
 
-  given : (a : ℕ) → Contains (take (i + 1) nodes) a → number_of new a ≡ number
+  given : (a : ℕ) → Contains (take (i + 1) nodes) a → value_of new a ≡ number
   given a has = elim (cases_eq a x) [
-    | inl same ↦ ap (number_of new) same ∙ at_x
+    | inl same ↦ ap (value_of new) same ∙ at_x
     | inr ne ↦ elim (in_pushed (take i nodes) x a (subst (λ (ns : List ℕ). Contains ns a) more has)) [
       | inl before ↦ elsewhere a ne ∙ so_far.given a before
       | inr same ↦ absurd (ne (sym same))
     ]
   ]
 
-  others : (a : ℕ) → (number_of new a ≡ number_of old a) ⊎ Contains (take (i + 1) nodes) a
+  others : (a : ℕ) → (value_of new a ≡ value_of old a) ⊎ Contains (take (i + 1) nodes) a
   others a = elim (cases_eq a x) [
     | inl same ↦ inr (subst (λ (ns : List ℕ). Contains ns a) (sym more) (subst (λ (b : ℕ). Contains (take i nodes ++ x ∷ []) b) (sym same) (end_there (take i nodes) x)))
     | inr ne ↦ elim (so_far.others a) [

@@ -10,7 +10,7 @@ use Rattle.fab_rings.specs.Neighbours.{successors_of}
 use Rattle.fab_rings.specs.Layers.{times, times_ready, times_freed, untaken, level_of, left_of, edges_left, IsTaking, TakesEdges}
 use Rattle.fab_rings.proofs.Times.{one_if, one_if_same, none_if_other, times_front, freed_now, freed_not, freed_never, ready_now, ready_not_taken, ready_not_left}
 use Rattle.fab_rings.proofs.EdgesOf.{successor_edge}
-use Rattle.fab_rings.proofs.EdgesLeft.{taken_away, some_left}
+use Rattle.fab_rings.proofs.Layering.EdgesLeft.{taken_away, some_left}
 
 turned : {m n : ℕ} → m ≢ n → n ≢ m
 turned ne e = ne (sym e)

@@ -9,14 +9,14 @@ use Rattle.fab_graph.specs.Walks.{IsEdge}
 use Rattle.fab_rings.specs.declared.strong_components.Group.{Group}
 use Rattle.fab_rings.specs.Neighbours.{successors_of}
 use Rattle.fab_rings.specs.Layers.{times}
-use Rattle.fab_rings.specs.StrongComponents.{Comes, number_of}
-use Rattle.fab_rings.specs.PathSearch.{PathSearched, IsAt, IsNoEarlier, IsLookedAt, IsHeadFrom, IsPathSearch, HasTaken, with_head, with_found, work_left}
+use Rattle.fab_rings.specs.StrongComponents.{Comes, value_of}
+use Rattle.fab_rings.specs.PathSearch.{PathSearched, HasAt, IsNoEarlier, IsLookedAt, IsHeadFrom, IsPathSearch, HasTaken, with_head, with_found, work_left}
 use Rattle.fab_rings.proofs.Times.{one_if, one_if_same, none_if_other, stands_there, counts_there}
 use Rattle.fab_rings.proofs.EdgesOf.{leaving, successor_edge, successor_there, successors_low}
-use Rattle.fab_rings.proofs.Places.{at_front, at_back, at_end, from_append, from_push, in_front, in_pushed, end_there, all_front}
-use Rattle.fab_rings.proofs.HeadTaken.{looked_front, leaves_front, waiting_front, comes_to_head, head_low}
+use Rattle.fab_rings.proofs.Searching.Places.{at_front, at_back, at_end, from_append, from_push, in_front, in_pushed, end_there, all_front}
+use Rattle.fab_rings.proofs.Searching.HeadTaken.{looked_front, leaves_front, waiting_front, comes_to_head, head_low}
 
-module _ (s : PathSearched) (head : ℕ) (has_taken : HasTaken s head) (none : number_of s.places head ≡ 0) where
+module _ (s : PathSearched) (head : ℕ) (has_taken : HasTaken s head) (none : value_of s.places head ≡ 0) where
   abbrev before : IsPathSearch (with_head s head)
   before = has_taken.before
 
@@ -38,13 +38,13 @@ module _ (s : PathSearched) (head : ℕ) (has_taken : HasTaken s head) (none : n
   within_places : head < length s.places
   within_places = omega (arith, head_low s head has_taken, before.each_place)
 
-  place_here : number_of after.places head ≡ place + 1
+  place_here : value_of after.places head ≡ place + 1
   place_here = get_or-set_same s.places head (place + 1) 0 within_places
 
-  place_else : (a : ℕ) → a ≢ head → number_of after.places a ≡ number_of s.places a
+  place_else : (a : ℕ) → a ≢ head → value_of after.places a ≡ value_of s.places a
   place_else a ne = get_or-set_other s.places head a (place + 1) 0 ne
 
-  not_closed : number_of s.components head ≡ 0
+  not_closed : value_of s.components head ≡ 0
   not_closed = before.is_new head none
 
   -- the new group is the only one that begins at the new place
@@ -64,31 +64,31 @@ module _ (s : PathSearched) (head : ℕ) (has_taken : HasTaken s head) (none : n
   is_old : (x : Group) (p : ℕ) → p < length s.opened → Contains after.groups x → x.first ≤ p → Contains s.groups x
   is_old x p low has begins = elim (in_pushed s.groups group x has) [ inl old ↦ old | inr same ↦ absurd (omega (arith, first_is x same, low, begins)) ]
 
-  placed : (a p : ℕ) → IsAt after.opened p a → (number_of after.places a ≡ p + 1) × (number_of s.components a ≡ 0)
+  placed : (a p : ℕ) → HasAt after.opened p a → (value_of after.places a ≡ p + 1) × (value_of s.components a ≡ 0)
   placed a p at = elim (from_push s.opened head p a at) [
     | inl old ↦
-        (let was : (number_of s.places a ≡ p + 1) × (number_of s.components a ≡ 0) = before.placed a p old in
-        let ne : a ≢ head = λ same. absurd (omega (arith, was.0, ap (λ (b : ℕ). number_of s.places b) same, none)) in
+        (let was : (value_of s.places a ≡ p + 1) × (value_of s.components a ≡ 0) = before.placed a p old in
+        let ne : a ≢ head = λ same. absurd (omega (arith, was.0, ap (λ (b : ℕ). value_of s.places b) same, none)) in
         (place_else a ne ∙ was.0, was.1))
-    | inr now ↦ (omega (arith, place_here, ap (λ (b : ℕ). number_of after.places b) now.1, now.0), subst (λ (b : ℕ). number_of s.components b ≡ 0) now.1 not_closed)
+    | inr now ↦ (omega (arith, place_here, ap (λ (b : ℕ). value_of after.places b) now.1, now.0), subst (λ (b : ℕ). value_of s.components b ≡ 0) now.1 not_closed)
   ]
 
-  is_open : (a : ℕ) → 0 < number_of after.places a → number_of s.components a ≡ 0 → (p : ℕ) × IsAt after.opened p a
+  is_open : (a : ℕ) → 0 < value_of after.places a → value_of s.components a ≡ 0 → (p : ℕ) × HasAt after.opened p a
   is_open a has not = elim (cases_eq a head) [
-    | inl same ↦ (place, subst (λ (b : ℕ). IsAt after.opened place b) (sym same) (at_end s.opened head))
-    | inr ne ↦ (let was : (p : ℕ) × IsAt s.opened p a = before.is_open a (omega (arith, has, place_else a ne)) not in (was.0, at_front s.opened (head ∷ []) was.0 a was.1))
+    | inl same ↦ (place, subst (λ (b : ℕ). HasAt after.opened place b) (sym same) (at_end s.opened head))
+    | inr ne ↦ (let was : (p : ℕ) × HasAt s.opened p a = before.is_open a (omega (arith, has, place_else a ne)) not in (was.0, at_front s.opened (head ∷ []) was.0 a was.1))
   ]
 
-  is_new : (a : ℕ) → number_of after.places a ≡ 0 → number_of s.components a ≡ 0
+  is_new : (a : ℕ) → value_of after.places a ≡ 0 → value_of s.components a ≡ 0
   is_new a without = elim (cases_eq a head) [
-    | inl same ↦ absurd (omega (arith, without, ap (λ (b : ℕ). number_of after.places b) same, place_here))
+    | inl same ↦ absurd (omega (arith, without, ap (λ (b : ℕ). value_of after.places b) same, place_here))
     | inr ne ↦ before.is_new a (omega (arith, without, place_else a ne))
   ]
 
   pub fewer_new : times 0 after.places + 1 ≡ times 0 s.places
-  fewer_new = omega (arith, sum_by-set (λ n. one_if (n == 0)) s.places head (place + 1) 0 within_places, one_if_same (number_of s.places head) 0 none, none_if_other (place + 1) 0 (λ e. absurd (omega (arith, e))))
+  fewer_new = omega (arith, sum_by-set (λ n. one_if (n == 0)) s.places head (place + 1) 0 within_places, one_if_same (value_of s.places head) 0 none, none_if_other (place + 1) 0 (λ e. absurd (omega (arith, e))))
 
-  reaches : (a b p q : ℕ) → IsAt after.opened p a → IsAt after.opened q b → IsNoEarlier after.groups p q → Comes R a b
+  reaches : (a b p q : ℕ) → HasAt after.opened p a → HasAt after.opened q b → IsNoEarlier after.groups p q → Comes R a b
   reaches a b p q at_p at_q not_earlier = elim (from_push s.opened head p a at_p) [
     | inl old ↦ elim (from_push s.opened head q b at_q) [
       | inl also ↦ before.reaches a b p q old also (λ x has h. not_earlier x (in_front s.groups (group ∷ []) x has) h)
@@ -104,12 +104,12 @@ module _ (s : PathSearched) (head : ℕ) (has_taken : HasTaken s head) (none : n
   looked_before b p low (inl (inl closed)) = inl closed
   looked_before b p low (inl (inr (inl x))) = inr (inl (x.0, at_front s.opened (head ∷ []) x.0 b x.1, λ z has h. x.2 z (is_old z p low has h) h))
   looked_before b p low (inl (inr (inr x))) = inr (inr (x.0, at_front s.heads heads x.0 b x.1, λ z has h. x.2 z (is_old z p low has h) h))
-  looked_before b p low (inr same) = inr (inl (place, subst (λ (c : ℕ). IsAt after.opened place c) same (at_end s.opened head), λ z has h. omega (arith, h, low)))
+  looked_before b p low (inr same) = inr (inl (place, subst (λ (c : ℕ). HasAt after.opened place c) same (at_end s.opened head), λ z has h. omega (arith, h, low)))
 
   head_there : (b : ℕ) → R head b → Contains heads b
   head_there b edge = stands_there b heads (successor_there s.graph.edges head b edge)
 
-  looked : (a b p : ℕ) → IsAt after.opened p a → R a b → IsLookedAt after p b
+  looked : (a b p : ℕ) → HasAt after.opened p a → R a b → IsLookedAt after p b
   looked a b p at edge = elim (from_push s.opened head p a at) [
     | inl old ↦ looked_before b p old.0 (looked_front s head has_taken p b (before.looked a b p old edge))
     | inr now ↦
@@ -117,7 +117,7 @@ module _ (s : PathSearched) (head : ℕ) (has_taken : HasTaken s head) (none : n
         inr (inr (length s.heads + has.0, at_back s.heads heads has.0 b (has.1, has.2), λ z in_groups h. omega (arith, below_low z in_groups))))
   ]
 
-  leaves : (b t : ℕ) (y : Group) → IsAt after.heads t b → Contains after.groups y → y.below ≤ t → IsHeadFrom after t b
+  leaves : (b t : ℕ) (y : Group) → HasAt after.heads t b → Contains after.groups y → y.below ≤ t → IsHeadFrom after t b
   leaves b t y at has low = elim (from_append s.heads heads t b at) [
     | inl old ↦ elim (in_pushed s.groups group y has) [
       | inl was ↦
@@ -147,7 +147,7 @@ module _ (s : PathSearched) (head : ℕ) (has_taken : HasTaken s head) (none : n
     | inr now ↦ (group, end_there s.groups group, now)
   ]
 
-  ordered : (i j : ℕ) (x y : Group) → IsAt after.groups i x → IsAt after.groups j y → i ≤ j → (x.first ≤ y.first) × (x.below ≤ y.below)
+  ordered : (i j : ℕ) (x y : Group) → HasAt after.groups i x → HasAt after.groups j y → i ≤ j → (x.first ≤ y.first) × (x.below ≤ y.below)
   ordered i j x y at also low = elim (from_push s.groups group j y also) [
     | inl old ↦ elim (from_push s.groups group i x at) [ inl was ↦ before.ordered i j x y was old low | inr now ↦ absurd (omega (arith, old.0, now.0, low)) ]
     | inr now ↦
@@ -155,9 +155,9 @@ module _ (s : PathSearched) (head : ℕ) (has_taken : HasTaken s head) (none : n
         (omega (arith, begins_low x has, first_is y now.1), omega (arith, below_low x has, below_is y now.1)))
   ]
 
-  waiting : (a : ℕ) → a < s.graph.nodes → (0 < number_of after.places a) ⊎ Contains after.heads a
+  waiting : (a : ℕ) → a < s.graph.nodes → (0 < value_of after.places a) ⊎ Contains after.heads a
   waiting a low = elim (cases_eq a head) [
-    | inl same ↦ inl (omega (arith, ap (λ (b : ℕ). number_of after.places b) same, place_here))
+    | inl same ↦ inl (omega (arith, ap (λ (b : ℕ). value_of after.places b) same, place_here))
     | inr ne ↦ elim (waiting_front s head has_taken a low) [
       | inl was ↦ inl (omega (arith, was, place_else a ne))
       | inr x ↦ elim x [ inl has ↦ inr (in_front s.heads heads a has) | inr same ↦ absurd (ne (sym same)) ]

@@ -1,0 +1,115 @@
+-- The answer after one file, a fabric or a plan of it: what is said of what is read is said after the file.
+--     weaker     a weaker fact of the answer
+--     one        one answer
+--     small      a small status
+--     exists     an answer
+use Rattle.std.proofs.Common.{◌≡◌, ℕ, ◌≤◌, List, Result, Ok, Err, refl, sym, subst, ◌∙◌, arith}
+use Rattle.fab_model.specs.Topology.{Topology}
+use Rattle.fab_model.specs.WellFormed.{IsFabric}
+use Rattle.fab_tables.specs.declared.plan.Plan.{Plan}
+use Rattle.fab_tables.specs.Fit.{PlanFits, IsTidy}
+use Rattle.fab_top.specs.Answer.{Answer, refused, unread}
+use Rattle.fab_top.specs.Files.{fabric_in, plan_in}
+use Rattle.fab_top.specs.Seen.{Seen, Content, After, AfterFile, WithFabric, WithPlan, word_at}
+use Rattle.fab_top.proofs.ReadFits.{fabric_fits, plan_fits}
+
+-- the content is told
+abbrev pub IsTold : Content → Type 0
+IsTold content = (bytes : List ℕ) × (content ≡ Content.Holds bytes)
+
+-- some answer is right
+abbrev pub HasRightAnswer : (Answer → Type 0) → Type 0
+HasRightAnswer IsRight = (a : Answer) × IsRight a
+
+-- ---- any file
+
+after_weaker : {X : Type 0} (read : Result X (List ℕ)) (rest other : X → Answer → Type 0) (a : Answer) → ((x : X) → read ≡ Ok x → rest x a → other x a) → After read rest a → After read other a
+after_weaker (Ok x) rest other a weaker is = weaker x refl is
+after_weaker (Err text) rest other a weaker is = is
+
+file_weaker : {X : Type 0} (name : List ℕ) (content : Content) (read : List ℕ → List ℕ → Result X (List ℕ)) (rest other : X → Answer → Type 0) (a : Answer) →
+    ((bytes : List ℕ) (x : X) → read name bytes ≡ Ok x → rest x a → other x a) → AfterFile name content read rest a → AfterFile name content read other a
+file_weaker name (Content.Holds bytes) read rest other a weaker is = after_weaker (read name bytes) rest other a (weaker bytes) is
+file_weaker name Content.Untold read rest other a weaker is = tt
+file_weaker name Content.Fails read rest other a weaker is = is
+
+after_one : {X : Type 0} (read : Result X (List ℕ)) (rest : X → Answer → Type 0) (a b : Answer) → ((x : X) → read ≡ Ok x → rest x a → rest x b → a ≡ b) → After read rest a → After read rest b → a ≡ b
+after_one (Ok x) rest a b one first second = one x refl first second
+after_one (Err text) rest a b one first second = first ∙ sym second
+
+file_one : {X : Type 0} (name : List ℕ) (content : Content) (read : List ℕ → List ℕ → Result X (List ℕ)) (rest : X → Answer → Type 0) (a b : Answer) →
+    IsTold content → ((bytes : List ℕ) (x : X) → read name bytes ≡ Ok x → rest x a → rest x b → a ≡ b) → AfterFile name content read rest a → AfterFile name content read rest b → a ≡ b
+file_one name (Content.Holds bytes) read rest a b told one first second = after_one (read name bytes) rest a b (one bytes) first second
+file_one name Content.Untold read rest a b told one first second = cc
+file_one name Content.Fails read rest a b told one first second = first ∙ sym second
+
+small_refusal : (text : List ℕ) (a : Answer) → a ≡ refused text → a.status ≤ 3
+small_refusal text a is = let P : Answer → Type 0 = λ b. b.status ≤ 3 in subst P (sym is) (omega arith)
+
+after_small : {X : Type 0} (read : Result X (List ℕ)) (rest : X → Answer → Type 0) (a : Answer) → ((x : X) → rest x a → a.status ≤ 3) → After read rest a → a.status ≤ 3
+after_small (Ok x) rest a small is = small x is
+after_small (Err text) rest a small is = small_refusal text a is
+
+file_small : {X : Type 0} (name : List ℕ) (content : Content) (read : List ℕ → List ℕ → Result X (List ℕ)) (rest : X → Answer → Type 0) (a : Answer) →
+    IsTold content → ((x : X) → rest x a → a.status ≤ 3) → AfterFile name content read rest a → a.status ≤ 3
+file_small name (Content.Holds bytes) read rest a told small is = after_small (read name bytes) rest a small is
+file_small name Content.Untold read rest a told small is = cc
+file_small name Content.Fails read rest a told small is = cc
+
+after_exists : {X : Type 0} (read : Result X (List ℕ)) (rest : X → Answer → Type 0) → ((x : X) → read ≡ Ok x → HasRightAnswer (rest x)) → HasRightAnswer (After read rest)
+after_exists (Ok x) rest exists = exists x refl
+after_exists (Err text) rest exists = (refused text, refl)
+
+file_exists : {X : Type 0} (name : List ℕ) (content : Content) (read : List ℕ → List ℕ → Result X (List ℕ)) (rest : X → Answer → Type 0) →
+    IsTold content → ((bytes : List ℕ) (x : X) → read name bytes ≡ Ok x → HasRightAnswer (rest x)) → HasRightAnswer (AfterFile name content read rest)
+file_exists name (Content.Holds bytes) read rest told exists = after_exists (read name bytes) rest (exists bytes)
+file_exists name Content.Untold read rest told exists = cc
+file_exists name Content.Fails read rest told exists = (unread name, refl)
+
+-- ---- a fabric
+
+pub fabric_weaker : (w : Seen) (place : ℕ) (rest other : Topology → Answer → Type 0) (a : Answer) → ((t : Topology) → IsFabric t → rest t a → other t a) → WithFabric w place rest a → WithFabric w place other a
+fabric_weaker w place rest other a weaker is =
+    file_weaker (word_at w.words place) (w.content place) fabric_in rest other a (λ bytes t read. weaker t (fabric_fits (word_at w.words place) bytes t read)) is
+
+pub fabric_one : (w : Seen) (place : ℕ) (rest : Topology → Answer → Type 0) (a b : Answer) → IsTold (w.content place) → ((t : Topology) → IsFabric t → rest t a → rest t b → a ≡ b) →
+    WithFabric w place rest a → WithFabric w place rest b → a ≡ b
+fabric_one w place rest a b told one first second =
+    file_one (word_at w.words place) (w.content place) fabric_in rest a b told (λ bytes t read. one t (fabric_fits (word_at w.words place) bytes t read)) first second
+
+pub fabric_small : (w : Seen) (place : ℕ) (rest : Topology → Answer → Type 0) (a : Answer) → IsTold (w.content place) → ((t : Topology) → rest t a → a.status ≤ 3) → WithFabric w place rest a → a.status ≤ 3
+fabric_small w place rest a told small is = file_small (word_at w.words place) (w.content place) fabric_in rest a told small is
+
+pub fabric_exists : (w : Seen) (place : ℕ) (rest : Topology → Answer → Type 0) → IsTold (w.content place) → ((t : Topology) → IsFabric t → HasRightAnswer (rest t)) → HasRightAnswer (WithFabric w place rest)
+fabric_exists w place rest told exists =
+    file_exists (word_at w.words place) (w.content place) fabric_in rest told (λ bytes t read. exists t (fabric_fits (word_at w.words place) bytes t read))
+
+-- ---- a plan of a fabric
+
+-- what is known of a plan that was read
+pub record IsReadPlan (t : Topology) (p : Plan) : Type 0 where
+  pub fabric : IsFabric t
+  pub fits : PlanFits t p
+  pub tidy : IsTidy t p
+
+is_read_plan : (t : Topology) (name bytes : List ℕ) (p : Plan) → IsFabric t → plan_in t name bytes ≡ Ok p → IsReadPlan t p
+is_read_plan t name bytes p fabric read =
+    let facts : PlanFits t p × IsTidy t p = plan_fits t name bytes p fabric read in
+    record { fabric = fabric; fits = facts.0; tidy = facts.1 }
+
+pub plan_weaker : (w : Seen) (t : Topology) (place : ℕ) (rest other : Plan → Answer → Type 0) (a : Answer) → IsFabric t → ((p : Plan) → IsReadPlan t p → rest p a → other p a) →
+    WithPlan w t place rest a → WithPlan w t place other a
+plan_weaker w t place rest other a fabric weaker is =
+    file_weaker (word_at w.words place) (w.content place) (plan_in t) rest other a (λ bytes p read. weaker p (is_read_plan t (word_at w.words place) bytes p fabric read)) is
+
+pub plan_one : (w : Seen) (t : Topology) (place : ℕ) (rest : Plan → Answer → Type 0) (a b : Answer) → IsFabric t → IsTold (w.content place) → ((p : Plan) → IsReadPlan t p → rest p a → rest p b → a ≡ b) →
+    WithPlan w t place rest a → WithPlan w t place rest b → a ≡ b
+plan_one w t place rest a b fabric told one first second =
+    file_one (word_at w.words place) (w.content place) (plan_in t) rest a b told (λ bytes p read. one p (is_read_plan t (word_at w.words place) bytes p fabric read)) first second
+
+pub plan_small : (w : Seen) (t : Topology) (place : ℕ) (rest : Plan → Answer → Type 0) (a : Answer) → IsTold (w.content place) → ((p : Plan) → rest p a → a.status ≤ 3) → WithPlan w t place rest a → a.status ≤ 3
+plan_small w t place rest a told small is = file_small (word_at w.words place) (w.content place) (plan_in t) rest a told small is
+
+pub plan_exists : (w : Seen) (t : Topology) (place : ℕ) (rest : Plan → Answer → Type 0) → IsFabric t → IsTold (w.content place) → ((p : Plan) → IsReadPlan t p → HasRightAnswer (rest p)) → HasRightAnswer (WithPlan w t place rest)
+plan_exists w t place rest fabric told exists =
+    file_exists (word_at w.words place) (w.content place) (plan_in t) rest told (λ bytes p read. exists p (is_read_plan t (word_at w.words place) bytes p fabric read))
