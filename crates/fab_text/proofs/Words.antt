@@ -83,34 +83,43 @@ words_by bytes (Some place) = slice_range bytes place.start place.end ∷ words_
 abbrev place_by : Bool → ℕ → ℕ → Option Span
 place_by test start count = cond test None (Some (record { start = start; end = start + count }))
 
-met : (test : Bool) (bytes : List ℕ) (start : ℕ) → start ≡ blanks_in_front bytes → (first_part (drop start bytes) == 0) ≡ test
-    → words_of bytes ≡ words_by bytes (place_by test start (first_part (drop start bytes)))
-met true bytes start e k =
-    let front : List ℕ = drop start bytes in
-    let unblank : blanks_in_front front ≡ 0 = ap (λ (n : ℕ). blanks_in_front (drop n bytes)) e ∙ no_blanks_left bytes in
+met : (test : Bool) (line : List ℕ) (from start : ℕ) → start ≡ from + blanks_in_front (drop from line) → (first_part (drop start line) == 0) ≡ test
+    → words_of (drop from line) ≡ words_by line (place_by test start (first_part (drop start line)))
+met true line from start e k =
+    let front : List ℕ = drop start line in
+    let moved : drop (blanks_in_front (drop from line)) (drop from line) ≡ front = drop-drop (blanks_in_front (drop from line)) from line ∙ ap (λ (n : ℕ). drop n line) (sym e) in
+    let unblank : blanks_in_front front ≡ 0 = ap (λ (bytes : List ℕ). blanks_in_front bytes) (sym moved) ∙ no_blanks_left (drop from line) in
     let empty : front ≡ [] = stops front unblank (grind (arith, k)) in
-    blanks_first bytes ∙ ap (λ (n : ℕ). words_of (drop n bytes)) (sym e) ∙ ap words_of empty
-met false bytes start e k =
-    let front : List ℕ = drop start bytes in
+    blanks_first (drop from line) ∙ ap words_of moved ∙ ap words_of empty
+met false line from start e k =
+    let front : List ℕ = drop start line in
     let count : ℕ = first_part front in
+    let moved : drop (blanks_in_front (drop from line)) (drop from line) ≡ front = drop-drop (blanks_in_front (drop from line)) from line ∙ ap (λ (n : ℕ). drop n line) (sym e) in
     let split : Parted front (parts front) count = parted front in
     let size : length (take count front) ≡ count = length-prefix_len (λ byte. not (is_blank byte)) front in
     let some : (length (take count front) == 0) ≡ false = ap (λ (n : ℕ). n == 0) size ∙ k in
     let word : take (start + count - start) front ≡ take count front = ap (λ (n : ℕ). take n front) (omega arith) in
-    let rest : drop count front ≡ drop (start + count) bytes = drop-drop count start bytes ∙ grind (arith, common_steps) in
-    blanks_first bytes ∙ ap (λ (n : ℕ). words_of (drop n bytes)) (sym e) ∙ ap without_empty split.whole
+    let rest : drop count front ≡ drop (start + count) line = drop-drop count start line in
+    blanks_first (drop from line) ∙ ap words_of moved ∙ ap without_empty split.whole
     ∙ ap (λ (test : Bool). cond (not test) (take count front ∷ without_empty split.others) (without_empty split.others)) some
     ∙ ap (λ (words : List (List ℕ)). take count front ∷ words) (split.words ∙ ap words_of rest)
-    ∙ ap (λ (word : List ℕ). word ∷ words_of (drop (start + count) bytes)) (sym word)
+    ∙ ap (λ (word : List ℕ). word ∷ words_of (drop (start + count) line)) (sym word)
 
-word_met : (bytes : List ℕ) → words_of bytes ≡ words_by bytes (word_at bytes 0)
-word_met bytes = met _ bytes (0 + blanks_in_front bytes) (omega arith) refl
+word_met : (line : List ℕ) (from : ℕ) → words_of (drop from line) ≡ words_by line (word_at line from)
+word_met line from = met _ line from (from + blanks_in_front (drop from line)) refl refl
 
+pub word_next : (line : List ℕ) (from : ℕ) (place : Span) → word_at line from ≡ Some place → words_of (drop from line) ≡ slice_range line place.start place.end ∷ words_of (drop place.end line)
+word_next line from place e = word_met line from ∙ ap (words_by line) e
+
+pub no_word : (line : List ℕ) (from : ℕ) → word_at line from ≡ None → words_of (drop from line) ≡ []
+no_word line from e = word_met line from ∙ ap (words_by line) e
+
+-- the same from the front on
 pub next_word_is : (bytes : List ℕ) (place : Span) → word_at bytes 0 ≡ Some place → words_of bytes ≡ slice_range bytes place.start place.end ∷ words_of (drop place.end bytes)
-next_word_is bytes place e = word_met bytes ∙ ap (words_by bytes) e
+next_word_is bytes place e = word_next bytes 0 place e
 
 pub no_word_is : (bytes : List ℕ) → word_at bytes 0 ≡ None → words_of bytes ≡ []
-no_word_is bytes e = word_met bytes ∙ ap (words_by bytes) e
+no_word_is bytes e = no_word bytes 0 e
 
 -- ---- words that were written
 
