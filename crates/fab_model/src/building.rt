@@ -85,7 +85,7 @@ fn adapter_rows(alloc: Global, raw: &Raw) -> Result<Vec<AdapterRow>, AllocError>
 /// logarithmic time.
 fn number_by_guid<R, F: FnMut(&R) -> u64>(rows: &[R], guid: u64, guid_of: F) -> usize
     requires { F.IsAlwaysCallable guid_of }
-    ensures number { (key : R → ℕ) → ComputesKey F.FnMut key guid_of → AllPairs (λ first second. key first < key second) rows.now → result ≡ build.number_of key rows.now guid }
+    ensures number { (key : R → ℕ) → ComputesKey F.FnMut key guid_of → AllPairs (λ first second. key first < key second) rows.now → result ≡ build.number_by_guid key rows.now guid }
     ensures within { result ≤ length rows.now }
 {
     rows.binary_search_by_key(&guid, guid_of)
