@@ -26,11 +26,6 @@ use Rattle.fab_certify.proofs.Numbering.{first_used, second_used}
 pub same_dependencies : (t : Topology) (e : Entries) (l : LaneTables) (c : Collected) → AreDependencies t e l c → SameGraph (IsEdge c.pairs) (DependsByNode t e l)
 same_dependencies t e l c are m n = (are.from_routes.pairs m n, are.pairs m n)
 
--- a graph with a closed walk has a first ring
-pub has_ring : (edges : List (ℕ × ℕ)) (o : Option (List ℕ)) → HasClosedWalk (IsEdge edges) → MatchOption o (IsAcyclic (IsEdge edges)) (IsFirstRing (IsEdge edges)) → IsSome o
-has_ring edges None closed none = absurd (none closed.0 closed.1)
-has_ring edges (Some ring) closed first = refl
-
 pub dependency_ring : (t : Topology) (e : Entries) (l : LaneTables) (c : Collected) (edges : List (ℕ × ℕ)) (ring : List ℕ) → AreDependencies t e l c → edges ≡ c.pairs → IsFirstRing (IsEdge edges) ring → IsFirstRing (DependsByNode t e l) ring
 dependency_ring t e l c edges ring are same first =
     same_first_ring (IsEdge c.pairs) (DependsByNode t e l) (same_dependencies t e l c are) ring (subst (λ ps. IsFirstRing (IsEdge ps) ring) same first)

@@ -24,7 +24,7 @@ use Rattle.fab_tables.proofs.RouteFaults.{IsUnreached, unreached}
 use Rattle.fab_tables.proofs.StartFaults.{IsOfLid, of_lid}
 use Rattle.fab_certify.specs.declared.certified.Certified.{Certified}
 use Rattle.fab_certify.specs.declared.certified.Certified.TheVariants.{Numbers, Refused, RingUsed}
-use Rattle.fab_certify.specs.Structural.{IsStructuralAt}
+use Rattle.fab_tables.specs.LaneFaults.{IsStructuralAt}
 use Rattle.fab_certify.specs.Numbered.{IsNumberedBy, IsNumberedPlan}
 use Rattle.fab_certify.specs.Certificate.{IsCertificateBy}
 use Rattle.fab_certify.specs.Laws.{OneCertificate}

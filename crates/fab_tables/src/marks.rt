@@ -33,20 +33,22 @@ impl Marks {
     }
 
     /// Takes all marks away.
-    pub(crate) fn clear(&mut self)
+    pub fn clear(&mut self)
         ensures { self.new ≡ replicate (length self.old) false }
     {
         self.marked.fill(false);
     }
 
-    pub(crate) fn is_marked(&self, s: SwitchId, level: u8) -> bool
+    /// Whether a switch is marked for a level.
+    pub fn is_marked(&self, s: SwitchId, level: u8) -> bool
         requires { s.0 * 16 + level < length self.now }
         ensures { result ≡ slice_index_or self.now (cell 16 s.0 level) false }
     {
         self.marked[s.0 as usize * 16 + level as usize]
     }
 
-    pub(crate) fn mark(&mut self, s: SwitchId, level: u8)
+    /// Marks a switch for a level.
+    pub fn mark(&mut self, s: SwitchId, level: u8)
         requires { s.0 * 16 + level < length self.old }
         ensures { self.new ≡ slice_set self.old (cell 16 s.0 level) true }
     {
