@@ -1,12 +1,11 @@
 -- Routes are collected from start to start, and from LID to LID.
-use Rattle.std.proofs.Common.{◌≡◌, ℕ, ◌+◌, ◌*◌, ◌<◌, ◌≤◌, ◌^◌, Bool, false, List, [], length, replicate, refl, sym, ◌∙◌, ap, subst, inl, inr, arith, Contains, Some, None, Option, slice_get}
+use Rattle.std.proofs.Common.{◌≡◌, ℕ, ◌+◌, ◌*◌, ◌<◌, ◌≤◌, ◌^◌, Bool, false, List, [], length, replicate, sym, ◌∙◌, ap, subst, inl, inr, arith, Contains, Some, None, Option, slice_get}
 use Rattle.std.specs.Prelude.{slice_index_or, IsSome}
 use Rattle.std.proofs.lemmas.Bool.{cases_lt, false≢true}
 use Rattle.std.proofs.lemmas.List.{get_or-replicate, get_or_past, length-replicate}
 use Rattle.std.proofs.lemmas.List.Elements.{All-contains}
-use Rattle.std.proofs.lemmas.Option.{same_Some, none-some, slice_get_within, get_or_from_slice_get}
+use Rattle.std.proofs.lemmas.Option.{same_Some}
 use Rattle.std.proofs.Math.Nat.{mul-le-mul_left}
-use Rattle.fab_model.specs.declared.rows.SwitchId.{SwitchId}
 use Rattle.fab_model.specs.declared.rows.TerminalRow.{TerminalRow}
 use Rattle.fab_model.specs.Topology.{Topology, lids_of}
 use Rattle.fab_model.specs.Connected.{IsConnectedTo}

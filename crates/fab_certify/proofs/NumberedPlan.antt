@@ -1,10 +1,10 @@
 -- The levels of the dependencies, as numbers, make the numbered plan.
-use Rattle.std.proofs.Common.{◌≡◌, ℕ, ◌+◌, ◌*◌, ◌/◌, ◌%◌, ◌<◌, ◌≤◌, Bool, true, false, List, length, refl, sym, ◌∙◌, ap, subst, inl, inr, arith, Some, None, Option}
-use Rattle.std.specs.Prelude.{IsSome, MatchOption, nat_lt, if◌then◌else◌, slice_index_or}
+use Rattle.std.proofs.Common.{◌≡◌, ℕ, ◌+◌, ◌*◌, ◌/◌, ◌%◌, ◌<◌, ◌≤◌, Bool, true, false, List, length, refl, sym, ◌∙◌, ap, subst, inl, inr, arith}
+use Rattle.std.specs.Prelude.{nat_lt, if◌then◌else◌, slice_index_or}
 use Rattle.std.proofs.lemmas.Bool.{cases_lt, cond-true, cond-false, lt-ltb, le-ltb}
 use Rattle.std.proofs.lemmas.List.{get_or_past, get_or_default}
 use Rattle.std.proofs.lemmas.Nat.{div-mul-add, mod-mul-add}
-use Rattle.fab_graph.specs.Walks.{IsEdge, SameGraph, HasClosedWalk, IsAcyclic}
+use Rattle.fab_graph.specs.Walks.{IsEdge, SameGraph}
 use Rattle.fab_graph.specs.Rings.{IsFirstRing}
 use Rattle.fab_graph.proofs.Same.{same_first_ring}
 use Rattle.fab_model.specs.Topology.{Topology}

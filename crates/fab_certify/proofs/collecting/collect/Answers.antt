@@ -1,4 +1,4 @@
-use Rattle.std.proofs.Common.{◌≡◌, ◌*◌, refl, sym, ◌∙◌, ap, arith, length, replicate, false, Bool, slice_index_or}
+use Rattle.std.proofs.Common.{◌≡◌, ◌*◌, refl, ◌∙◌, ap, arith, length, replicate, false, Bool, slice_index_or}
 use Rattle.fab_model.specs.Topology.{lids_of}
 use Rattle.fab_model.proofs.LidsInUse.{as_many, lid_there, contains_lid}
 use Rattle.fab_certify.proofs.CollectingStarts.{from_no_routes, one_lid_more, are_dependencies}
