@@ -1,27 +1,14 @@
--- What follows behind the first channel of a route, and what is collected of it.
-use Rattle.std.proofs.Common.{◌≡◌, ℕ, zero, suc, ◌+◌, ◌-◌, ◌≤◌, List, [], ◌∷◌, length, drop, refl, sym, ◌∙◌, ap, inl, inr, arith, slice_get}
+-- Hops of a route that are collected: the first of them, and those behind.
+use Rattle.std.proofs.Common.{◌≡◌, ℕ, suc, ◌+◌, ◌-◌, ◌≤◌, List, length, drop, refl, sym, ◌∙◌, ap, inl, inr, arith, slice_get}
 use Rattle.std.proofs.lemmas.Bool.{cases_lt}
 use Rattle.std.proofs.lemmas.Option.{slice_get_within}
-use Rattle.fab_model.specs.Topology.{Topology}
 use Rattle.fab_tables.specs.declared.verdict.VirtualChannel.{VirtualChannel}
-use Rattle.fab_tables.specs.LaneTables.{LaneTables}
-use Rattle.fab_tables.specs.VirtualChannels.{on_channels, arrival}
 use Rattle.fab_tables.specs.Dependencies.{node_of}
-use Rattle.fab_certify.specs.Collected.{Collected, Grows, HasHops, HasFirstHops, hops_behind}
-
--- behind the first channel of the rest of a route stands the rest of its hops but one
-pub behind_drop : (t : Topology) (l : LaneTables) (of_level k from : ℕ) (cs : List ℕ) → hops_behind t l of_level (drop k cs) ≡ drop (suc k) (on_channels t l of_level from cs)
-behind_drop t l of_level zero from [] = refl
-behind_drop t l of_level (suc k) from [] = refl
-behind_drop t l of_level zero from (c ∷ cs) = refl
-behind_drop t l of_level (suc k) from (c ∷ cs) = behind_drop t l of_level k (arrival (slice_get t.channels c)) cs
+use Rattle.fab_tables.proofs.RoutesBehind.{slice_dropped}
+use Rattle.fab_certify.specs.Collected.{Collected, Grows, HasHops, HasFirstHops}
 
 get_dropped : {A : Type 0} (xs : List A) (n k m : ℕ) → m ≡ n + k → slice_get (drop n xs) k ≡ slice_get xs m
-get_dropped [] zero k m e = refl
-get_dropped [] (suc n) k m e = refl
-get_dropped (x ∷ xs) zero k m e = let same : k ≡ m = omega arith in ap (λ i. slice_get (x ∷ xs) i) same
-get_dropped (x ∷ xs) (suc n) k zero e = absurd (omega arith)
-get_dropped (x ∷ xs) (suc n) k (suc m) e = get_dropped xs n k m (omega arith)
+get_dropped xs n k m e = slice_dropped xs n k ∙ ap (λ i. slice_get xs i) (sym e)
 
 module _ (count : ℕ) (hops : List VirtualChannel) where
   pub hops_grow : (a b : Collected) → Grows a b → HasHops count hops a → HasHops count hops b

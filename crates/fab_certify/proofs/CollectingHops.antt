@@ -1,6 +1,6 @@
 -- The hops of a route are collected one after the other, until those behind are collected already.
 use Rattle.std.proofs.Common.{◌≡◌, ℕ, suc, ◌+◌, ◌*◌, ◌<◌, ◌≤◌, ◌^◌, ◌⊎◌, Bool, true, false, List, [], ◌∷◌, length, drop, refl, sym, ◌∙◌, ap, subst, inl, inr, arith, Contains, Some, None, Option}
-use Rattle.std.specs.Prelude.{IfSome, slice_get}
+use Rattle.std.specs.Prelude.{IfSome, slice_get, slice_index_or, slice_set}
 use Rattle.std.proofs.lemmas.Bool.{cases_lt, false≢true}
 use Rattle.std.proofs.lemmas.List.{length-drop}
 use Rattle.std.proofs.lemmas.List.Elements.{All-contains}
@@ -14,7 +14,7 @@ use Rattle.fab_model.specs.declared.rows.Lid.{Lid}
 use Rattle.fab_model.specs.declared.rows.TerminalRow.{TerminalRow}
 use Rattle.fab_model.specs.Topology.{Topology}
 use Rattle.fab_tables.specs.declared.verdict.VirtualChannel.{VirtualChannel}
-use Rattle.fab_tables.specs.Entries.{Entries}
+use Rattle.fab_tables.specs.Entries.{Entries, cell}
 use Rattle.fab_tables.specs.LaneTables.{LaneTables, level}
 use Rattle.fab_tables.specs.Route.{route}
 use Rattle.fab_tables.specs.VirtualChannels.{virtual_channels, on_channels, at_level}
@@ -22,18 +22,19 @@ use Rattle.fab_tables.specs.Dependencies.{IsPath, IsUsed, Depends, DependsByNode
 use Rattle.fab_tables.proofs.CertifiedLaws.{contains_of}
 use Rattle.fab_tables.proofs.Routes.{channel_there}
 use Rattle.fab_tables.proofs.Ways.{drop_step}
+use Rattle.fab_tables.proofs.LevelsLow.{level_low}
+use Rattle.fab_tables.proofs.RoutesBehind.{behind_tail, hops_dropped, channel_of_hop}
+use Rattle.fab_tables.specs.Judged.{IsRoomFor, hops_from, hops_behind}
 use Rattle.fab_tables.specs.declared.starts.Start.{Start}
 use Rattle.fab_tables.specs.Starts.{StartsAt}
 use Rattle.fab_certify.specs.Numbered.{IsSound}
-use Rattle.fab_certify.specs.LevelMarks.{IsMarkedAt, Marks}
-use Rattle.fab_certify.specs.Collected.{Collected, IsMarked, Grows, AddsHop, IsFromRoutes, HasHops, HasFirstHops, HasRoutes, hops_behind, HasBehind, AreBehind}
-use Rattle.fab_certify.proofs.BehindHops.{behind_drop, hops_grow, has_rest, joined, all_first}
-use Rattle.fab_certify.proofs.HopChannels.{channel_of_hop}
-use Rattle.fab_certify.proofs.RouteSuffixes.{rest_from}
+use Rattle.fab_certify.specs.Collected.{Collected, IsMarked, Grows, AddsHop, IsFromRoutes, HasHops, HasFirstHops, HasRoutes, IsMarkedAt, HasBehind, AreBehind}
+use Rattle.fab_certify.proofs.BehindHops.{hops_grow, has_rest, joined, all_first}
+use Rattle.fab_certify.proofs.MarksSet.{marks_only, room_for, room_still}
 
 -- the hops of the route from a start
-abbrev pub hops_from : Topology → Entries → LaneTables → Lid → Start → ℕ → List VirtualChannel
-hops_from t e l lid start of_level = on_channels t l of_level start.port ((route t e start.switch.0 lid.0).channels)
+abbrev pub start_hops : Topology → Entries → LaneTables → Lid → Start → ℕ → List VirtualChannel
+start_hops t e l lid start of_level = hops_from t e l lid.0 start.switch.0 start.port of_level
 
 -- the number of the hop before, if there is one
 abbrev pub IsLastNode : ℕ → List VirtualChannel → ℕ → Option ℕ → Type 0
@@ -47,20 +48,20 @@ IsPassed t e lid start of_level passed s at =
 
 -- So many hops are collected. Behind each switch that is marked all is collected, or the packets have come to it on their way.
 -- Where all from the last hop on is known to be collected, one hop is left to do.
-pub record IsCollecting (t : Topology) (e : Entries) (l : LaneTables) (lid : Lid) (start : Start) (of_level : ℕ) (old now : Collected) (marks : List ℕ) (passed : ℕ) (before : Option ℕ) (known : Bool) : Type 0 where
+pub record IsCollecting (t : Topology) (e : Entries) (l : LaneTables) (lid : Lid) (start : Start) (of_level : ℕ) (old now : Collected) (marks : List Bool) (passed : ℕ) (before : Option ℕ) (known : Bool) : Type 0 where
   pub from_routes : IsFromRoutes t e l now
   pub grows : Grows old now
-  pub has : HasFirstHops l.count (hops_from t e l lid start of_level) passed now
-  pub last : IsLastNode l.count (hops_from t e l lid start of_level) passed before
+  pub has : HasFirstHops l.count (start_hops t e l lid start of_level) passed now
+  pub last : IsLastNode l.count (start_hops t e l lid start of_level) passed before
   pub before_low : IfSome before (λ m. m < length now.used)
-  pub marks_each : length marks ≡ length t.switches
-  pub marked : (s at : ℕ) → IsMarkedAt marks s at → HasBehind t e l lid.0 now s at ⊎ IsPassed t e lid start of_level passed s at
-  pub rest : known ≡ true → HasHops l.count (drop passed (hops_from t e l lid start of_level)) now
+  pub room : IsRoomFor t marks
+  pub marked : (s at : ℕ) → at < 16 → IsMarkedAt marks s at → HasBehind t e l lid.0 now s at ⊎ IsPassed t e lid start of_level passed s at
+  pub rest : known ≡ true → HasHops l.count (drop passed (start_hops t e l lid start of_level)) now
 
 -- the iterator has these hops before it
-pub record IsCollectingOn (t : Topology) (e : Entries) (l : LaneTables) (lid : Lid) (start : Start) (of_level : ℕ) (left : List VirtualChannel) (old now : Collected) (marks : List ℕ) (before : Option ℕ) (known : Bool) : Type 0 where
+pub record IsCollectingOn (t : Topology) (e : Entries) (l : LaneTables) (lid : Lid) (start : Start) (of_level : ℕ) (left : List VirtualChannel) (old now : Collected) (marks : List Bool) (before : Option ℕ) (known : Bool) : Type 0 where
   pub passed : ℕ
-  pub ahead : left ≡ drop passed (hops_from t e l lid start of_level)
+  pub ahead : left ≡ drop passed (start_hops t e l lid start of_level)
   pub so_far : IsCollecting t e l lid start of_level old now marks passed before known
 
 pub grows_none : (c : Collected) → Grows c c
@@ -70,11 +71,11 @@ pub grows_on : (a b c : Collected) → Grows a b → Grows b c → Grows a c
 grows_on a b c x y = record { each = y.each ∙ x.each; used = λ n h. y.used n (x.used n h); pairs = λ p h. y.pairs p (x.pairs p h) }
 
 -- what is behind a mark stays collected
-pub behind_grows : (t : Topology) (e : Entries) (l : LaneTables) (lid : ℕ) (marks : List ℕ) (a b : Collected) → Grows a b → AreBehind t e l lid marks a → AreBehind t e l lid marks b
-behind_grows t e l lid marks a b grows are s at is = hops_grow l.count (hops_behind t l at (route t e s lid).channels) a b grows (are s at is)
+pub behind_grows : (t : Topology) (e : Entries) (l : LaneTables) (lid : ℕ) (marks : List Bool) (a b : Collected) → Grows a b → AreBehind t e l lid marks a → AreBehind t e l lid marks b
+behind_grows t e l lid marks a b grows are s at few is = hops_grow l.count (hops_behind t e l lid s at) a b grows (are s at few is)
 
-pub begins : (t : Topology) (e : Entries) (l : LaneTables) (lid : Lid) (start : Start) (of_level : ℕ) (left : List VirtualChannel) (c : Collected) (marks : List ℕ) → left ≡ hops_from t e l lid start of_level →
-    length marks ≡ length t.switches → IsFromRoutes t e l c → AreBehind t e l lid.0 marks c → IsCollectingOn t e l lid start of_level left c c marks None false
+pub begins : (t : Topology) (e : Entries) (l : LaneTables) (lid : Lid) (start : Start) (of_level : ℕ) (left : List VirtualChannel) (c : Collected) (marks : List Bool) → left ≡ start_hops t e l lid start of_level →
+    IsRoomFor t marks → IsFromRoutes t e l c → AreBehind t e l lid.0 marks c → IsCollectingOn t e l lid start of_level left c c marks None false
 begins t e l lid start of_level left c marks all each from behind = record {
   passed = 0;
   ahead = all;
@@ -84,8 +85,8 @@ begins t e l lid start of_level left c marks all each from behind = record {
     has = record { used = λ k v low at. absurd (omega arith); pairs = λ k v w low a b. absurd (omega arith) };
     last = refl;
     before_low = tt;
-    marks_each = each;
-    marked = λ s at is. inl (behind s at is);
+    room = each;
+    marked = λ s at few is. inl (behind s at few is);
     rest = λ is. absurd (false≢true is);
   };
 }
@@ -99,7 +100,7 @@ node_fits t fabric count c lane few a b = omega (arith, fabric.rows.channel_coun
 
 module _ (t : Topology) (e : Entries) (l : LaneTables) (lid : Lid) (start : Start) (of_level : ℕ) (starts : StartsAt t e l lid.0 start of_level) (sound : IsSound t e l) where
   abbrev hops : List VirtualChannel
-  hops = hops_from t e l lid start of_level
+  hops = start_hops t e l lid start of_level
 
   abbrev channels : List ℕ
   channels = (route t e start.switch.0 lid.0).channels
@@ -127,7 +128,7 @@ module _ (t : Topology) (e : Entries) (l : LaneTables) (lid : Lid) (start : Star
   hop_depends k v w a b = (row, lid.0, path, (k, ap (λ vs. slice_get vs k) there ∙ a, ap (λ vs. slice_get vs (suc k)) there ∙ b))
 
   channel_at : (k : ℕ) (v : VirtualChannel) → slice_get hops k ≡ Some v → slice_get channels k ≡ Some v.channel.0
-  channel_at k v at = channel_of_hop t l of_level start.port channels k v at
+  channel_at k v at = channel_of_hop t l of_level channels start.port k v at
 
   -- the next hop has a channel of the fabric and a lane below the count, and leaves a switch of the fabric
   pub channel_low : (k : ℕ) (v : VirtualChannel) → slice_get hops k ≡ Some v → v.channel.0 < length t.channels
@@ -136,23 +137,26 @@ module _ (t : Topology) (e : Entries) (l : LaneTables) (lid : Lid) (start : Star
   pub start_low : start.switch.0 < length t.switches
   start_low = subst (λ (x : Start). x.switch.0 < length t.switches) starts.terminal.2 (All-contains (λ (r : TerminalRow). r.switch.0 < length t.switches) t.terminals row starts.toward.fabric.rows.terminal_switches starts.terminal.1)
 
+  pub level_few : of_level < 16
+  level_few = level_low l start.switch.0 lid.0 of_level starts.lanes.whole starts.has_level
+
   pub lane_low : (k : ℕ) (v : VirtualChannel) → slice_get hops k ≡ Some v → v.lane < l.count
   lane_low k v at = sound.lane v (hop_used k v at)
 
   pub small_node : (k : ℕ) (v : VirtualChannel) → slice_get hops k ≡ Some v → node_of l.count v < 2 ^ 32
   small_node k v at = node_fits t starts.toward.fabric l.count v.channel.0 v.lane starts.lanes.whole.count.1 (channel_low k v at) (lane_low k v at)
 
-  pub tail_low : (v : VirtualChannel) (r : ChannelRow) → slice_get t.channels v.channel.0 ≡ Some r → r.tail.0 < length t.switches
+  tail_low : (v : VirtualChannel) (r : ChannelRow) → slice_get t.channels v.channel.0 ≡ Some r → r.tail.0 < length t.switches
   tail_low v r is = All-contains (λ (x : ChannelRow). x.tail.0 < length t.switches) t.channels r starts.toward.fabric.rows.channel_tails
       (v.channel.0, slice_get_within t.channels v.channel.0 r is, get_or_from_slice_get t.channels v.channel.0 r r is)
 
   -- from there the route is the rest of this one
   rest_at : (k : ℕ) (v : VirtualChannel) (r : ChannelRow) → slice_get hops k ≡ Some v → slice_get t.channels v.channel.0 ≡ Some r → (route t e r.tail.0 lid.0).channels ≡ drop k channels
-  rest_at k v r at is = rest_from t e lid.0 start.switch.0 k v.channel.0 r (sound.reaches start.switch.0 lid.0 starts.connected) (channel_at k v at) is
+  rest_at k v r at is = behind_tail t e lid.0 start.switch.0 k v.channel.0 r (sound.reaches start.switch.0 lid.0 starts.connected) (channel_at k v at) is
 
   -- what is behind a switch on the way
-  behind_at : (k s : ℕ) → (route t e s lid.0).channels ≡ drop k channels → hops_behind t l of_level (route t e s lid.0).channels ≡ drop (suc k) hops
-  behind_at k s same = ap (λ cs. hops_behind t l of_level cs) same ∙ behind_drop t l of_level k start.port channels
+  behind_at : (k s : ℕ) → (route t e s lid.0).channels ≡ drop k channels → hops_behind t e l lid.0 s of_level ≡ drop (suc k) hops
+  behind_at k s same = ap (λ cs. drop 1 (on_channels t l of_level 0 cs)) same ∙ sym (hops_dropped t l of_level k start.port 0 channels)
 
   -- a switch is passed but once
   passed_once : (j k s : ℕ) (v : VirtualChannel) → j < k → slice_get hops k ≡ Some v → (route t e s lid.0).channels ≡ drop j channels → (route t e s lid.0).channels ≡ drop k channels → ⊥
@@ -166,12 +170,12 @@ module _ (t : Topology) (e : Entries) (l : LaneTables) (lid : Lid) (start : Star
   )
 
   -- with all hops collected, behind each mark all is
-  behind_all : (old now : Collected) (marks : List ℕ) (passed : ℕ) (before : Option ℕ) (known : Bool) → IsCollecting t e l lid start of_level old now marks passed before known → HasHops l.count hops now →
+  behind_all : (old now : Collected) (marks : List Bool) (passed : ℕ) (before : Option ℕ) (known : Bool) → IsCollecting t e l lid start of_level old now marks passed before known → HasHops l.count hops now →
       AreBehind t e l lid.0 marks now
-  behind_all old now marks passed before known so_far all s at is = elim (so_far.marked s at is) [
+  behind_all old now marks passed before known so_far all s at few is = elim (so_far.marked s at few is) [
     | inl behind ↦ behind
     | inr way ↦
-        (let at_level_is : hops_behind t l at (route t e s lid.0).channels ≡ drop (suc way.1.0) hops = ap (λ n. hops_behind t l n (route t e s lid.0).channels) way.0 ∙ behind_at way.1.0 s way.1.2 in
+        (let at_level_is : hops_behind t e l lid.0 s at ≡ drop (suc way.1.0) hops = ap (λ n. hops_behind t e l lid.0 s n) way.0 ∙ behind_at way.1.0 s way.1.2 in
         subst (λ vs. HasHops l.count vs now) (sym at_level_is) (has_rest l.count hops (suc way.1.0) now all))
   ]
 
@@ -180,12 +184,16 @@ module _ (t : Topology) (e : Entries) (l : LaneTables) (lid : Lid) (start : Star
   routes_of now all p to_lid is =
       subst (λ vs. HasHops l.count vs now) (sym (same_hops p (ap (λ (x : Start). x.switch.0) is) (ap (λ (x : Start). x.port) is))) all
 
+  -- there is room for the mark
+  pub mark_low : (v : VirtualChannel) (r : ChannelRow) (marks : List Bool) → slice_get t.channels v.channel.0 ≡ Some r → IsRoomFor t marks → r.tail.0 * 16 + of_level < length marks
+  mark_low v r marks is room = room_for t marks r.tail.0 of_level room (tail_low v r is) level_few
+
   -- the number of the next hop is below the count of numbers
   pub node_below : (now : Collected) (passed : ℕ) (v : VirtualChannel) → IsFromRoutes t e l now → slice_get hops passed ≡ Some v → node_of l.count v < length now.used
   node_below now passed v from at = omega (arith, node_low (length t.channels) l.count v.channel.0 v.lane (channel_low passed v at) (lane_low passed v at), from.each)
 
   -- a hop is added
-  module _ (old now new : Collected) (marks : List ℕ) (passed : ℕ) (before : Option ℕ) (known : Bool) (v : VirtualChannel) (so_far : IsCollecting t e l lid start of_level old now marks passed before known)
+  module _ (old now new : Collected) (marks : List Bool) (passed : ℕ) (before : Option ℕ) (known : Bool) (v : VirtualChannel) (so_far : IsCollecting t e l lid start of_level old now marks passed before known)
       (at : slice_get hops passed ≡ Some v) (adds : AddsHop before (node_of l.count v) now new) where
     used : (n : ℕ) → IsMarked new n → (w : VirtualChannel) × IsUsed t e l w × (node_of l.count w ≡ n)
     used n is = elim (adds.marked_only n is) [ inl was ↦ so_far.from_routes.used n was | inr same ↦ (v, hop_used passed v at, sym same) ]
@@ -234,9 +242,9 @@ module _ (t : Topology) (e : Entries) (l : LaneTables) (lid : Lid) (start : Star
     has_now = record { used = has_used; pairs = has_pairs }
 
     -- what was behind a mark stays there
-    marked_still : (s on : ℕ) → IsMarkedAt marks s on → HasBehind t e l lid.0 new s on ⊎ IsPassed t e lid start of_level (suc passed) s on
-    marked_still s on is = elim (so_far.marked s on is) [
-      | inl behind ↦ inl (hops_grow l.count (hops_behind t l on (route t e s lid.0).channels) now new adds.grows behind)
+    marked_still : (s on : ℕ) → on < 16 → IsMarkedAt marks s on → HasBehind t e l lid.0 new s on ⊎ IsPassed t e lid start of_level (suc passed) s on
+    marked_still s on few is = elim (so_far.marked s on few is) [
+      | inl behind ↦ inl (hops_grow l.count (hops_behind t e l lid.0 s on) now new adds.grows behind)
       | inr way ↦ inr (way.0, (way.1.0, omega (arith, way.1.1), way.1.2))
     ]
 
@@ -247,7 +255,7 @@ module _ (t : Topology) (e : Entries) (l : LaneTables) (lid : Lid) (start : Star
       has = has_now;
       last = (passed, v, refl, at, refl);
       before_low = omega (arith, node_below now passed v so_far.from_routes at, adds.grows.each);
-      marks_each = so_far.marks_each;
+      room = so_far.room;
       marked = marked_still;
       rest = λ is. absurd (false≢true is);
     }
@@ -269,29 +277,26 @@ module _ (t : Topology) (e : Entries) (l : LaneTables) (lid : Lid) (start : Star
     known_grows = grows_now
 
     -- the switch that the hop leaves is marked
-    module _ (r : ChannelRow) (is_row : slice_get t.channels v.channel.0 ≡ Some r) (new_marks : List ℕ) (was : Bool) (told : (was ≡ true → IsMarkedAt marks r.tail.0 of_level) × (IsMarkedAt marks r.tail.0 of_level → was ≡ true))
-        (marking : Marks r.tail.0 of_level marks new_marks) where
+    module _ (r : ChannelRow) (is_row : slice_get t.channels v.channel.0 ≡ Some r) (was : Bool) (read : was ≡ slice_index_or marks (cell 16 r.tail.0 of_level) false) where
       on_way : (route t e r.tail.0 lid.0).channels ≡ drop passed channels
       on_way = rest_at passed v r at is_row
 
       behind_here : was ≡ true → HasHops l.count (drop (suc passed) hops) new
-      behind_here is = elim (so_far.marked r.tail.0 of_level (told.0 is)) [
-        | inl behind ↦
-            subst (λ vs. HasHops l.count vs new) (behind_at passed r.tail.0 on_way)
-            (hops_grow l.count (hops_behind t l of_level (route t e r.tail.0 lid.0).channels) now new adds.grows behind)
+      behind_here is = elim (so_far.marked r.tail.0 of_level level_few (sym read ∙ is)) [
+        | inl behind ↦ subst (λ vs. HasHops l.count vs new) (behind_at passed r.tail.0 on_way) (hops_grow l.count (hops_behind t e l lid.0 r.tail.0 of_level) now new adds.grows behind)
         | inr way ↦ absurd (passed_once way.1.0 passed r.tail.0 v way.1.1 at way.1.2 on_way)
       ]
 
-      pub hop_marked : IsCollecting t e l lid start of_level old new new_marks (suc passed) (Some (node_of l.count v)) was
+      pub hop_marked : IsCollecting t e l lid start of_level old new (slice_set marks (cell 16 r.tail.0 of_level) true) (suc passed) (Some (node_of l.count v)) was
       hop_marked = record {
         from_routes = from_routes_now;
         grows = grows_now;
         has = has_now;
         last = (passed, v, refl, at, refl);
         before_low = hop_added.before_low;
-        marks_each = marking.each ∙ so_far.marks_each;
-        marked = λ s on is. elim (marking.only s on is) [
-          | inl before_it ↦ marked_still s on before_it
+        room = room_still t marks (cell 16 r.tail.0 of_level) so_far.room;
+        marked = λ s on few is. elim (marks_only marks r.tail.0 of_level s on level_few few is) [
+          | inl before_it ↦ marked_still s on few before_it
           | inr here ↦ inr (here.1, (passed, omega arith, ap (λ x. (route t e x lid.0).channels) here.0 ∙ on_way))
         ];
         rest = behind_here;
@@ -302,7 +307,7 @@ module _ (t : Topology) (e : Entries) (l : LaneTables) (lid : Lid) (start : Star
   next_hop left after passed v ahead takes = drop_step hops after passed v (sym takes ∙ ahead)
 
   -- at the end of the route all is collected
-  module _ (old now : Collected) (marks : List ℕ) (before : Option ℕ) (known : Bool) (left : List VirtualChannel) (on : IsCollectingOn t e l lid start of_level left old now marks before known) (over : left ≡ []) where
+  module _ (old now : Collected) (marks : List Bool) (before : Option ℕ) (known : Bool) (left : List VirtualChannel) (on : IsCollectingOn t e l lid start of_level left old now marks before known) (over : left ≡ []) where
     all_hops : HasHops l.count hops now
     all_hops = all_first l.count hops on.passed now on.so_far.has
         (omega (arith, length-drop on.passed hops, ap (λ (xs : List VirtualChannel). length xs) (sym over ∙ on.ahead)))

@@ -1,12 +1,11 @@
 -- Routes are collected from start to start, and from LID to LID.
-use Rattle.std.proofs.Common.{◌≡◌, ℕ, ◌+◌, ◌*◌, ◌<◌, ◌≤◌, ◌^◌, Bool, false, List, [], length, replicate, refl, sym, ◌∙◌, ap, subst, inl, inr, arith, Contains, Some, None, Option, slice_get}
+use Rattle.std.proofs.Common.{◌≡◌, ℕ, ◌+◌, ◌*◌, ◌<◌, ◌≤◌, ◌^◌, Bool, false, List, [], length, replicate, sym, ◌∙◌, ap, subst, inl, inr, arith, Contains, Some, None, Option, slice_get}
 use Rattle.std.specs.Prelude.{slice_index_or, IsSome}
 use Rattle.std.proofs.lemmas.Bool.{cases_lt, false≢true}
 use Rattle.std.proofs.lemmas.List.{get_or-replicate, get_or_past, length-replicate}
 use Rattle.std.proofs.lemmas.List.Elements.{All-contains}
-use Rattle.std.proofs.lemmas.Option.{same_Some, none-some, slice_get_within, get_or_from_slice_get}
+use Rattle.std.proofs.lemmas.Option.{same_Some}
 use Rattle.std.proofs.Math.Nat.{mul-le-mul_left}
-use Rattle.fab_model.specs.declared.rows.SwitchId.{SwitchId}
 use Rattle.fab_model.specs.declared.rows.TerminalRow.{TerminalRow}
 use Rattle.fab_model.specs.Topology.{Topology, lids_of}
 use Rattle.fab_model.specs.Connected.{IsConnectedTo}
@@ -14,13 +13,14 @@ use Rattle.fab_model.specs.WellFormed.{IsFabric}
 use Rattle.fab_tables.specs.declared.verdict.VirtualChannel.{VirtualChannel}
 use Rattle.fab_tables.specs.Entries.{Entries}
 use Rattle.fab_tables.specs.LaneTables.{LaneTables, level}
-use Rattle.fab_tables.specs.VirtualChannels.{virtual_channels}
+use Rattle.fab_tables.specs.Route.{route}
+use Rattle.fab_tables.specs.VirtualChannels.{virtual_channels, at_level}
 use Rattle.fab_tables.specs.Dependencies.{IsPath, IsUsed, Depends, DependsByNode, node_of}
 use Rattle.fab_tables.specs.Plain.{plain_channels}
 use Rattle.fab_tables.proofs.PlainLaws.{same_channels}
 use Rattle.fab_tables.proofs.CertifiedLaws.{get_of}
 use Rattle.fab_tables.specs.declared.starts.Start.{Start}
-use Rattle.fab_tables.specs.Starts.{start_of, IsOfTerminal, AreStarts}
+use Rattle.fab_tables.specs.Starts.{start_of, IsOfTerminal, StandsFor, AreStartsFor}
 use Rattle.fab_tables.proofs.Lids.{connected_in_use}
 use Rattle.fab_certify.specs.Numbered.{IsSound}
 use Rattle.fab_certify.specs.Collected.{Collected, IsMarked, Grows, IsFromRoutes, HasHops, HasRoutes, HasRoutesFor, AreDependencies}
@@ -42,30 +42,29 @@ module _ (t : Topology) (e : Entries) (l : LaneTables) where
       not_none None a b = cc
       not_none (Some n) a b = cc
 
-  -- without maps of pairs the routes from two starts of a source are the same
-  routes_alike : (plain : l.pairs ≡ []) (a b : Start) → IsOfTerminal t a → a.switch.0 ≡ b.switch.0 → (lid : ℕ) (c : Collected) → HasRoutes t e l lid a c → HasRoutes t e l lid b c
-  routes_alike plain a b of_terminal same lid c has p path is =
-      let row : TerminalRow = of_terminal.0 in
-      let from : row.switch.0 ≡ a.switch.0 = ap (λ (x : Start). x.switch.0) of_terminal.2 in
-      let at_b : p.switch.0 ≡ b.switch.0 = ap (λ (x : Start). x.switch.0) is in
-      let switches : p.switch.0 ≡ row.switch.0 = at_b ∙ sym same ∙ sym from in
-      let row_path : IsPath t row lid = record { terminal = of_terminal.1; connected = subst (λ s. IsConnectedTo t s lid) switches path.connected } in
-      let hops : virtual_channels t e l row lid ≡ virtual_channels t e l p lid =
-      same_channels t e l plain row lid ∙ ap (λ s. plain_channels t e l s lid) (sym switches) ∙ sym (same_channels t e l plain p lid) in
-      subst (λ vs. HasHops l.count vs c) hops (has row row_path of_terminal.2)
+  -- packets of a terminal have the hops of the start that stands for it
+  hops_alike : (start : Start) (q p : TerminalRow) (lid : ℕ) → start_of q ≡ start → StandsFor l start p → virtual_channels t e l q lid ≡ virtual_channels t e l p lid
+  hops_alike start q p lid of stands = elim stands.alike [
+    | inl port ↦
+        (let ports : q.port ≡ p.port = ap (λ (x : Start). x.port) of ∙ port in
+        ap (λ x. at_level t l q.port ((route t e x lid).channels) (level l x lid)) switches ∙ ap (λ x. at_level t l x ((route t e p.switch.0 lid).channels) (level l p.switch.0 lid)) ports)
+    | inr plain ↦ same_channels t e l plain q lid ∙ ap (λ s. plain_channels t e l s lid) switches ∙ sym (same_channels t e l plain p lid)
+  ]
+    where
+      switches : q.switch.0 ≡ p.switch.0
+      switches = ap (λ (x : Start). x.switch.0) of ∙ stands.switch
 
--- the starts of smaller index are collected, and all of this source are alike
-pub record AreCollectedFrom (t : Topology) (e : Entries) (l : LaneTables) (lid : ℕ) (starts : List Start) (old now : Collected) (index : ℕ) (alike : Option SwitchId) : Type 0 where
+-- the starts of smaller index are collected
+pub record AreCollectedFrom (t : Topology) (e : Entries) (l : LaneTables) (lid : ℕ) (starts : List Start) (old now : Collected) (index : ℕ) : Type 0 where
   pub from_routes : IsFromRoutes t e l now
   pub grows : Grows old now
   pub has : (k : ℕ) (start : Start) → k < index → slice_get starts k ≡ Some start → HasRoutes t e l lid start now
-  pub same : (s : SwitchId) → alike ≡ Some s → (l.pairs ≡ []) × ((k : ℕ) × (start : Start) × (k < index) × (slice_get starts k ≡ Some start) × (start.switch.0 ≡ s.0))
 
-pub none_collected : (t : Topology) (e : Entries) (l : LaneTables) (lid : ℕ) (starts : List Start) (c : Collected) → IsFromRoutes t e l c → AreCollectedFrom t e l lid starts c c 0 None
-none_collected t e l lid starts c from = record { from_routes = from; grows = grows_none c; has = λ k start low at. absurd (omega arith); same = λ s is. absurd (none-some s is) }
+pub none_collected : (t : Topology) (e : Entries) (l : LaneTables) (lid : ℕ) (starts : List Start) (c : Collected) → IsFromRoutes t e l c → AreCollectedFrom t e l lid starts c c 0
+none_collected t e l lid starts c from = record { from_routes = from; grows = grows_none c; has = λ k start low at. absurd (omega arith) }
 
-module _ (t : Topology) (e : Entries) (l : LaneTables) (lid : ℕ) (starts : List Start) (are : AreStarts t starts) (index : ℕ) (start : Start) (at : slice_get starts index ≡ Some start) (old now : Collected) (alike : Option SwitchId)
-    (so_far : AreCollectedFrom t e l lid starts old now index alike) where
+module _ (t : Topology) (e : Entries) (l : LaneTables) (lid : ℕ) (starts : List Start) (index : ℕ) (start : Start) (at : slice_get starts index ≡ Some start) (old now : Collected)
+    (so_far : AreCollectedFrom t e l lid starts old now index) where
   one_more : (new : Collected) → Grows now new → HasRoutes t e l lid start new → (k : ℕ) (other : Start) → k < index + 1 → slice_get starts k ≡ Some other → HasRoutes t e l lid other new
   one_more new grows here k other low there = elim (cases_lt k index) [
     | inl less ↦ routes_grow t e l lid other now new grows (so_far.has k other less there)
@@ -74,44 +73,24 @@ module _ (t : Topology) (e : Entries) (l : LaneTables) (lid : ℕ) (starts : Lis
         subst (λ x. HasRoutes t e l lid x new) (same_Some start other (sym at ∙ ap (λ n. slice_get starts n) eq ∙ there)) here)
   ]
 
-  pub collected_more : (new : Collected) → IsFromRoutes t e l new → Grows now new → HasRoutes t e l lid start new → AreCollectedFrom t e l lid starts old new (index + 1) alike
-  collected_more new from grows here = record {
-    from_routes = from;
-    grows = grows_on old now new so_far.grows grows;
-    has = one_more new grows here;
-    same = λ s is. let x : (l.pairs ≡ []) × ((k : ℕ) × (other : Start) × (k < index) × (slice_get starts k ≡ Some other) × (other.switch.0 ≡ s.0)) = so_far.same s is in
-        (x.0, (x.1.0, x.1.1, omega (arith, x.1.2), x.1.3, x.1.4));
-  }
-
-  -- from now on the starts of its source are alike
-  pub collected_alike : (new : Collected) → IsFromRoutes t e l new → Grows now new → HasRoutes t e l lid start new → l.pairs ≡ [] → AreCollectedFrom t e l lid starts old new (index + 1) (Some start.switch)
-  collected_alike new from grows here plain = record {
-    from_routes = from;
-    grows = grows_on old now new so_far.grows grows;
-    has = one_more new grows here;
-    same = λ s is. (plain, (index, start, omega arith, at, ap (λ (x : SwitchId). x.0) (same_Some start.switch s is)));
-  }
+  pub collected_more : (new : Collected) → IsFromRoutes t e l new → Grows now new → HasRoutes t e l lid start new → AreCollectedFrom t e l lid starts old new (index + 1)
+  collected_more new from grows here = record { from_routes = from; grows = grows_on old now new so_far.grows grows; has = one_more new grows here }
 
   -- nothing is to be collected from this start
-  pub collected_same : HasRoutes t e l lid start now → AreCollectedFrom t e l lid starts old now (index + 1) alike
+  pub collected_same : HasRoutes t e l lid start now → AreCollectedFrom t e l lid starts old now (index + 1)
   collected_same here = collected_more now so_far.from_routes (grows_none now) here
 
-  -- a start of that source is collected already
-  pub has_again : alike ≡ Some start.switch → HasRoutes t e l lid start now
-  has_again is = routes_alike t e l x.0 x.1.1 start of_terminal x.1.4 lid now (so_far.has x.1.0 x.1.1 x.1.2 x.1.3)
-    where
-      x : (l.pairs ≡ []) × ((k : ℕ) × (other : Start) × (k < index) × (slice_get starts k ≡ Some other) × (other.switch.0 ≡ start.switch.0))
-      x = so_far.same start.switch is
-
-      of_terminal : IsOfTerminal t x.1.1
-      of_terminal = All-contains (IsOfTerminal t) starts x.1.1 are.terminals (x.1.0, slice_get_within starts x.1.0 x.1.1 x.1.3, get_or_from_slice_get starts x.1.0 x.1.1 x.1.1 x.1.3)
-
 -- all starts are collected
-pub has_all : (t : Topology) (e : Entries) (l : LaneTables) (lid : ℕ) (starts : List Start) → AreStarts t starts → (old now : Collected) (index : ℕ) (alike : Option SwitchId) →
-    AreCollectedFrom t e l lid starts old now index alike → length starts ≤ index → HasRoutesFor t e l lid now
-has_all t e l lid starts are old now index alike so_far all p path =
-    let has : Contains starts (start_of p) = All-contains (λ (r : TerminalRow). Contains starts (start_of r)) t.terminals p are.all path.terminal in
-    so_far.has has.0 (start_of p) (omega (arith, has.1, all)) (get_of starts has.0 (start_of p) has.1 has.2) p path refl
+pub has_all : (t : Topology) (e : Entries) (l : LaneTables) (lid : ℕ) (starts : List Start) → AreStartsFor t l starts → (old now : Collected) (index : ℕ) →
+    AreCollectedFrom t e l lid starts old now index → length starts ≤ index → HasRoutesFor t e l lid now
+has_all t e l lid starts are old now index so_far all p path =
+    let stands : (start : Start) × Contains starts start × StandsFor l start p =
+    All-contains (λ (r : TerminalRow). (start : Start) × Contains starts start × StandsFor l start r) t.terminals p are.all path.terminal in
+    let of_terminal : IsOfTerminal t stands.0 = All-contains (IsOfTerminal t) starts stands.0 are.terminals stands.1 in
+    let connected : IsConnectedTo t of_terminal.0.switch.0 lid =
+    subst (λ s. IsConnectedTo t s lid) (sym (ap (λ (x : Start). x.switch.0) of_terminal.2 ∙ stands.2.switch)) path.connected in
+    subst (λ vs. HasHops l.count vs now) (hops_alike t e l stands.0 of_terminal.0 p lid of_terminal.2 stands.2)
+    (so_far.has stands.1.0 stands.0 (omega (arith, stands.1.1, all)) (get_of starts stands.1.0 stands.0 stands.1.1 stands.1.2) of_terminal.0 (record { terminal = of_terminal.1; connected = connected }) of_terminal.2)
 
 -- a LID that has no place has no routes
 pub no_routes : (t : Topology) (e : Entries) (l : LaneTables) (lid : ℕ) (c : Collected) → ((s : ℕ) → ¬ IsConnectedTo t s lid) → HasRoutesFor t e l lid c

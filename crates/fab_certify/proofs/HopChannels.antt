@@ -1,6 +1,6 @@
 -- The hops of a route go along channels of the fabric.
-use Rattle.std.proofs.Common.{◌≡◌, ℕ, zero, suc, ◌<◌, List, [], ◌∷◌, length, refl, ap, arith, Some, None, Option, slice_get}
-use Rattle.std.proofs.lemmas.Option.{same_Some, none-some}
+use Rattle.std.proofs.Common.{◌≡◌, ℕ, zero, suc, ◌<◌, List, [], ◌∷◌, length, refl, arith, Some, None, Option, slice_get}
+use Rattle.std.proofs.lemmas.Option.{none-some}
 use Rattle.fab_model.specs.declared.rows.ChannelRow.{ChannelRow}
 use Rattle.fab_model.specs.declared.rows.TerminalRow.{TerminalRow}
 use Rattle.fab_model.specs.Topology.{Topology}
@@ -8,19 +8,15 @@ use Rattle.fab_tables.specs.declared.verdict.VirtualChannel.{VirtualChannel}
 use Rattle.fab_tables.specs.Entries.{Entries}
 use Rattle.fab_tables.specs.LaneTables.{LaneTables, level}
 use Rattle.fab_tables.specs.Route.{route}
-use Rattle.fab_tables.specs.VirtualChannels.{virtual_channels, on_channels, at_level, arrival}
+use Rattle.fab_tables.specs.VirtualChannels.{virtual_channels, at_level}
 use Rattle.fab_tables.specs.Dependencies.{IsUsed}
 use Rattle.fab_tables.proofs.CertifiedLaws.{get_of, route_there}
-
-pub channel_of_hop : (t : Topology) (l : LaneTables) (of_level from : ℕ) (cs : List ℕ) (k : ℕ) (v : VirtualChannel) → slice_get (on_channels t l of_level from cs) k ≡ Some v → slice_get cs k ≡ Some v.channel.0
-channel_of_hop t l of_level from [] k v at = absurd (none-some v at)
-channel_of_hop t l of_level from (c ∷ cs) zero v at = ap (λ (w : VirtualChannel). Some w.channel.0) (same_Some _ v at)
-channel_of_hop t l of_level from (c ∷ cs) (suc k) v at = channel_of_hop t l of_level (arrival (slice_get t.channels c)) cs k v at
+use Rattle.fab_tables.proofs.RoutesBehind.{channel_of_hop}
 
 at_a_level : (t : Topology) (e : Entries) (l : LaneTables) (p : TerminalRow) (lid k : ℕ) (o : Option ℕ) (v : VirtualChannel) →
     slice_get (at_level t l p.port ((route t e p.switch.0 lid).channels) o) k ≡ Some v → v.channel.0 < length t.channels
 at_a_level t e l p lid k None v at = absurd (none-some v at)
-at_a_level t e l p lid k (Some of_level) v at = route_there t e lid (length t.switches) p.switch.0 k v.channel.0 (channel_of_hop t l of_level p.port ((route t e p.switch.0 lid).channels) k v at)
+at_a_level t e l p lid k (Some of_level) v at = route_there t e lid (length t.switches) p.switch.0 k v.channel.0 (channel_of_hop t l of_level ((route t e p.switch.0 lid).channels) p.port k v at)
 
 pub hop_channel : (t : Topology) (e : Entries) (l : LaneTables) (p : TerminalRow) (lid k : ℕ) (v : VirtualChannel) → slice_get (virtual_channels t e l p lid) k ≡ Some v → v.channel.0 < length t.channels
 hop_channel t e l p lid k v at = at_a_level t e l p lid k (level l p.switch.0 lid) v at

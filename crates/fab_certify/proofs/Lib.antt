@@ -1,11 +1,7 @@
-pub mod HopsAlong
-pub mod BadLanes
 pub mod HopChannels
-pub mod LidsInUse
-pub mod RouteSuffixes
 pub mod BehindHops
+pub mod MarksSet
 pub mod Mapping
-pub mod LevelMarks
 pub mod OneLane
 pub mod NumbersSet
 pub mod Refusals

@@ -1,10 +1,10 @@
 -- The levels of the dependencies, as numbers, make the numbered plan.
-use Rattle.std.proofs.Common.{◌≡◌, ℕ, ◌+◌, ◌*◌, ◌/◌, ◌%◌, ◌<◌, ◌≤◌, Bool, true, false, List, length, refl, sym, ◌∙◌, ap, subst, inl, inr, arith, Some, None, Option}
-use Rattle.std.specs.Prelude.{IsSome, MatchOption, nat_lt, if◌then◌else◌, slice_index_or}
+use Rattle.std.proofs.Common.{◌≡◌, ℕ, ◌+◌, ◌*◌, ◌/◌, ◌%◌, ◌<◌, ◌≤◌, Bool, true, false, List, length, refl, sym, ◌∙◌, ap, subst, inl, inr, arith}
+use Rattle.std.specs.Prelude.{nat_lt, if◌then◌else◌, slice_index_or}
 use Rattle.std.proofs.lemmas.Bool.{cases_lt, cond-true, cond-false, lt-ltb, le-ltb}
 use Rattle.std.proofs.lemmas.List.{get_or_past, get_or_default}
 use Rattle.std.proofs.lemmas.Nat.{div-mul-add, mod-mul-add}
-use Rattle.fab_graph.specs.Walks.{IsEdge, SameGraph, HasClosedWalk, IsAcyclic}
+use Rattle.fab_graph.specs.Walks.{IsEdge, SameGraph}
 use Rattle.fab_graph.specs.Rings.{IsFirstRing}
 use Rattle.fab_graph.proofs.Same.{same_first_ring}
 use Rattle.fab_model.specs.Topology.{Topology}
@@ -25,11 +25,6 @@ use Rattle.fab_certify.proofs.Numbering.{first_used, second_used}
 -- what is collected is the graph of the dependencies
 pub same_dependencies : (t : Topology) (e : Entries) (l : LaneTables) (c : Collected) → AreDependencies t e l c → SameGraph (IsEdge c.pairs) (DependsByNode t e l)
 same_dependencies t e l c are m n = (are.from_routes.pairs m n, are.pairs m n)
-
--- a graph with a closed walk has a first ring
-pub has_ring : (edges : List (ℕ × ℕ)) (o : Option (List ℕ)) → HasClosedWalk (IsEdge edges) → MatchOption o (IsAcyclic (IsEdge edges)) (IsFirstRing (IsEdge edges)) → IsSome o
-has_ring edges None closed none = absurd (none closed.0 closed.1)
-has_ring edges (Some ring) closed first = refl
 
 pub dependency_ring : (t : Topology) (e : Entries) (l : LaneTables) (c : Collected) (edges : List (ℕ × ℕ)) (ring : List ℕ) → AreDependencies t e l c → edges ≡ c.pairs → IsFirstRing (IsEdge edges) ring → IsFirstRing (DependsByNode t e l) ring
 dependency_ring t e l c edges ring are same first =

@@ -15,12 +15,13 @@ use Rattle.fab_tables.specs.VirtualChannels.{virtual_channels}
 use Rattle.fab_tables.specs.Dependencies.{IsPath}
 use Rattle.fab_tables.specs.Certified.{Reaches}
 use Rattle.fab_tables.specs.Verdicts.{IsHop, IsLaneFaultAt, IsFaultAt, IsStructural, IsRefusal}
-use Rattle.fab_tables.proofs.CertifiedLaws.{get_of, routes_reaches}
+use Rattle.fab_tables.proofs.CertifiedLaws.{get_of}
+use Rattle.fab_tables.proofs.Reached.{all_reached}
 use Rattle.fab_tables.proofs.PlainLaws.{source_of}
 use Rattle.fab_tables.specs.First.{IsBefore, IsFirst, FindsFirst}
 use Rattle.fab_tables.proofs.RouteFaults.{IsUnreached, unreached}
 use Rattle.fab_tables.proofs.StartFaults.{IsOfLid, of_lid}
-use Rattle.fab_certify.specs.Structural.{IsStructuralAt}
+use Rattle.fab_tables.specs.LaneFaults.{IsStructuralAt}
 use Rattle.fab_certify.specs.Numbered.{IsSound}
 use Rattle.fab_certify.proofs.HopChannels.{row_of}
 
@@ -82,9 +83,6 @@ module _ (t : Topology) (e : Entries) (l : LaneTables) where
         before : (earlier : List ℕ) (other : Verdict) → IsBefore earlier first.0 → ¬ IsRefused earlier other
         before earlier other comes f = elim (either earlier other f) [ inl x ↦ reached earlier other x | inr y ↦ first.2 earlier other comes y ]
 
-    reaches : Reaches t e
-    reaches = ((routes_reaches t (record { tables = e; lanes = None })).0 (refl, reached)).1
-
     module _ (none : FindsFirst (IsStructuralAt t e l) None) where
       leveled : (p : TerminalRow) (lid : ℕ) → IsPath t p lid → (o : Option ℕ) → level l p.switch.0 lid ≡ o → IsSome o
       leveled p lid path (Some n) is = refl
@@ -94,7 +92,7 @@ module _ (t : Topology) (e : Entries) (l : LaneTables) where
       -- no fault is left
       pub is_sound : IsSound t e l
       is_sound = record {
-        reaches = reaches;
+        reaches = all_reached t e reached;
         level = λ p lid path. leveled p lid path (level l p.switch.0 lid) refl;
         lane = λ v u. lane_low v u.0 u.1 u.3.0 u.2 (get_of (virtual_channels t e l u.0 u.1) u.3.0 v u.3.1 u.3.2);
       }
@@ -117,3 +115,7 @@ module _ (t : Topology) (e : Entries) (l : LaneTables) where
   lane_fault_found (Some fault) o none reached found = cc
   lane_fault_found None None none reached found = is_sound reached found
   lane_fault_found None (Some fault) none reached found = lane_fault_is_refusal reached fault found
+
+pub reached : (t : Topology) (e : Entries) (first : Option Verdict) → is_some first ≡ false → FindsFirst (IsFaultAt t e None) first → Reaches t e
+reached t e (Some fault) none found = cc
+reached t e None none found = all_reached t e found

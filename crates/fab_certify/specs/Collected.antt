@@ -1,18 +1,17 @@
 -- The virtual channels that routes use, and their dependencies, by number, as they are collected route by route.
-use Rattle.std.specs.Prelude.{◌≡◌, ℕ, suc, ◌*◌, ◌<◌, ◌⊎◌, List, [], ◌∷◌, length, Bool, true, false, Contains, Option, Some, IfSome, slice_get, slice_index_or}
+use Rattle.std.specs.Prelude.{◌≡◌, ℕ, suc, ◌*◌, ◌<◌, ◌⊎◌, List, [], length, Bool, true, false, Contains, Option, Some, IfSome, slice_get, slice_index_or}
 use Rattle.fab_model.specs.Topology.{Topology}
 use Rattle.fab_model.specs.declared.rows.TerminalRow.{TerminalRow}
 use Rattle.fab_tables.specs.declared.verdict.VirtualChannel.{VirtualChannel}
-use Rattle.fab_tables.specs.Entries.{Entries}
+use Rattle.fab_tables.specs.Entries.{Entries, cell}
 use Rattle.fab_tables.specs.LaneTables.{LaneTables}
-use Rattle.fab_tables.specs.Route.{route}
-use Rattle.fab_tables.specs.VirtualChannels.{virtual_channels, on_channels, arrival}
+use Rattle.fab_tables.specs.VirtualChannels.{virtual_channels}
+use Rattle.fab_tables.specs.Judged.{hops_behind}
 use Rattle.fab_tables.specs.Dependencies.{IsPath, IsUsed, DependsByNode, node_of}
 use Rattle.fab_tables.specs.declared.starts.Start.{Start}
 use Rattle.fab_tables.specs.Starts.{start_of}
 use Rattle.fab_rings.specs.EdgeList.{EdgeList}
 use Rattle.fab_graph.specs.Walks.{IsEdge}
-use Rattle.fab_certify.specs.LevelMarks.{IsMarkedAt}
 
 pub record Collected : Type 0 where
   pub used : List Bool  -- for each number whether its virtual channel is used
@@ -65,18 +64,17 @@ HasRoutes t e l lid start c = (p : TerminalRow) → IsPath t p lid → start_of 
 abbrev pub HasRoutesFor : Topology → Entries → LaneTables → ℕ → Collected → Type 0
 HasRoutesFor t e l lid c = (p : TerminalRow) → IsPath t p lid → HasHops l.count (virtual_channels t e l p lid) c
 
--- the hops of a route behind its first channel: the port by which the packets come makes no difference to them
-abbrev pub hops_behind : Topology → LaneTables → ℕ → List ℕ → List VirtualChannel
-hops_behind t l of_level [] = []
-hops_behind t l of_level (c ∷ cs) = on_channels t l of_level (arrival (slice_get t.channels c)) cs
+-- a switch is marked for a level
+abbrev pub IsMarkedAt : List Bool → ℕ → ℕ → Type 0
+IsMarkedAt marks s of_level = slice_index_or marks (cell 16 s of_level) false ≡ true
 
--- behind the first channel of the route from a switch to a LID all is collected, for packets of this level
+-- behind the first hop of the route from a switch to a LID all is collected, for packets of this level
 abbrev pub HasBehind : Topology → Entries → LaneTables → ℕ → Collected → ℕ → ℕ → Type 0
-HasBehind t e l lid c s of_level = HasHops l.count (hops_behind t l of_level (route t e s lid).channels) c
+HasBehind t e l lid c s of_level = HasHops l.count (hops_behind t e l lid s of_level) c
 
 -- so it is from each switch and at each level that are marked
-abbrev pub AreBehind : Topology → Entries → LaneTables → ℕ → List ℕ → Collected → Type 0
-AreBehind t e l lid marks c = (s of_level : ℕ) → IsMarkedAt marks s of_level → HasBehind t e l lid c s of_level
+abbrev pub AreBehind : Topology → Entries → LaneTables → ℕ → List Bool → Collected → Type 0
+AreBehind t e l lid marks c = (s of_level : ℕ) → of_level < 16 → IsMarkedAt marks s of_level → HasBehind t e l lid c s of_level
 
 -- what is collected is what the routes use, and their dependencies
 pub record AreDependencies (t : Topology) (e : Entries) (l : LaneTables) (c : Collected) : Type 0 where

@@ -2,8 +2,6 @@ pub mod Numbered
 pub mod Certificate
 pub mod EnginePlans
 pub mod Laws
-pub mod Structural
-pub mod LevelMarks
 pub mod Collected
 pub mod Numbers
 pub mod OneLane

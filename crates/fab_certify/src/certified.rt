@@ -10,17 +10,20 @@ ghost use Rattle.fab_tables.specs.Fit.{EntriesFit, LanesFit, PlanFits, IsTidy};
 ghost use Rattle.fab_tables.specs.Dependencies.{AreReadLanes};
 ghost use Rattle.fab_tables.specs.Verdicts.{IsRefusal};
 ghost use Rattle.fab_tables.specs.Certified.{IsCertified};
-ghost use Rattle.fab_tables.specs.Starts.{AreStarts};
+ghost use Rattle.fab_tables.specs.Starts.{AreStarts, AreAllStarts};
+ghost use Rattle.fab_tables.specs.Judged.{IsRoomFor};
 ghost use Rattle.fab_certify.specs.Numbered.{IsSound};
 ghost use Rattle.fab_certify.specs.Certificate.{IsCertificate, IsCertificateBy, HasNoPair, IsPlainCertificate};
 
 use crate::collecting::collect;
-use crate::lanes::first_lane_fault;
 use crate::numbers::set_numbers;
 use crate::one_lane::one_lane;
 use fab_model::Fabric;
-use fab_rings::{Ring, first_ring, levels};
-use fab_tables::{Components, Lanes, Plan, Start, Tables, Verdict, first_unreached, starts_of};
+use fab_rings::{Numbering, Ring, levels_or_ring};
+use fab_tables::{
+    Components, LaneFaults, Lanes, Marks, Plan, Start, Starts, Tables, Verdict, first_lane_fault,
+    first_unreached,
+};
 use std::alloc::{AllocError, Global};
 
 /// What certifying a plan answers.
@@ -37,9 +40,9 @@ pub enum Certified {
 
 /// Numbers a plan. A plan without lanes is taken with one lane and level 0.
 ///
-/// For each LID it takes a step for each switch and level, and some for each terminal; and then a step for each
-/// dependency, or a search of all of them for each virtual channel where they close a ring. It takes memory for
-/// each switch and LID, for each channel and lane, and for each dependency.
+/// For each LID it takes some steps for each switch and level in use and for each terminal, and then linear time
+/// in the virtual channels and their dependencies. It takes memory for each switch and LID, for each channel and
+/// lane, and for each dependency. An error comes only for want of memory.
 pub fn certify(alloc: Global, fabric: &Fabric, plan: &Plan) -> Result<Certified, AllocError>
     requires { PlanFits fabric.now plan.now }
     ensures answer { IfOk result (λ answer. IsCertificate fabric.now plan.now answer) }
@@ -51,13 +54,31 @@ pub fn certify(alloc: Global, fabric: &Fabric, plan: &Plan) -> Result<Certified,
     ensures tidy { IfOk result (λ answer. (new : Planned) → answer ≡ Certified.Numbers new → IsTidy fabric.now plan.now → IsTidy fabric.now new) }
 {
     let components = Components::of(alloc, fabric)?;
-    let starts = starts_of(alloc, fabric)?;
+    let starts = Starts::of(alloc, fabric)?;
+    let mut marks = Marks::new(alloc, fabric)?;
     let Plan { tables, lanes } = plan.copy(alloc)?;
-    let lanes = lanes_read(alloc, fabric, lanes, &components, &starts)?;
-    if let Some(fault) = first_fault(alloc, fabric, &tables, &lanes, &components, &starts)? {
+    let lanes = lanes_read(alloc, fabric, lanes, &components, starts.all())?;
+    let fault = first_fault(
+        alloc,
+        fabric,
+        &tables,
+        &lanes,
+        &components,
+        &starts,
+        &mut marks,
+    )?;
+    if let Some(fault) = fault {
         return Ok(Certified::Refused(fault));
     }
-    numbered(alloc, fabric, tables, lanes, &components, &starts)
+    numbered(
+        alloc,
+        fabric,
+        tables,
+        lanes,
+        &components,
+        &starts,
+        &mut marks,
+    )
 }
 
 /// The lanes with which a plan is read.
@@ -85,20 +106,24 @@ fn first_fault(
     tables: &Tables,
     lanes: &Lanes,
     components: &Components,
-    starts: &[Start],
+    starts: &Starts,
+    marks: &mut Marks,
 ) -> Result<Option<Verdict>, AllocError>
     requires tables { EntriesFit fabric.now tables.now }
     requires lanes { LanesFit fabric.now lanes.now }
     requires components { components.now ≡ fabric.now }
-    requires starts { AreStarts fabric.now starts.now }
-    ensures { IfOk result (λ fault. MatchOption fault (IsSound fabric.now tables.now lanes.now) (IsRefusal fabric.now tables.now lanes.now)) }
+    requires starts { AreAllStarts fabric.now starts.now }
+    requires room { IsRoomFor fabric.now marks.old }
+    ensures fault { IfOk result (λ fault. MatchOption fault (IsSound fabric.now tables.now lanes.now) (IsRefusal fabric.now tables.now lanes.now)) }
+    ensures room { IsRoomFor fabric.now marks.new }
 {
     let mut delivered = vec![in alloc; false; fabric.switches() as usize]?;
     let unreached = first_unreached(fabric, tables, components, &mut delivered);
     if unreached.is_some() {
         return Ok(unreached);
     }
-    Ok(first_lane_fault(fabric, tables, lanes, components, starts))
+    let faults = LaneFaults::Structural;
+    Ok(first_lane_fault(fabric, tables, lanes, faults, components, starts, marks))
 }
 
 /// The numbered plan, or the first ring of its dependencies.
@@ -108,25 +133,26 @@ fn numbered(
     tables: Tables,
     mut lanes: Lanes,
     components: &Components,
-    starts: &[Start],
+    starts: &Starts,
+    marks: &mut Marks,
 ) -> Result<Certified, AllocError>
     requires tables { EntriesFit fabric.now tables }
     requires lanes { LanesFit fabric.now lanes }
     requires components { components.now ≡ fabric.now }
-    requires starts { AreStarts fabric.now starts.now }
+    requires starts { AreAllStarts fabric.now starts.now }
+    requires room { IsRoomFor fabric.now marks.old }
     requires sound { IsSound fabric.now tables lanes }
     ensures { IfOk result (IsCertificateBy fabric.now tables lanes) }
 {
-    let dependencies = collect(alloc, fabric, &tables, &lanes, components, starts)?;
-    let graph = dependencies.graph();
-    match levels(alloc, graph)? {
-        Some(levels) => {
+    let dependencies = collect(alloc, fabric, &tables, &lanes, components, starts, marks)?;
+    match levels_or_ring(alloc, dependencies.graph())? {
+        Numbering::Levels(levels) => {
             set_numbers(&mut lanes, fabric.channels(), &dependencies, &levels);
             Ok(Certified::Numbers(Plan {
                 tables,
                 lanes: Some(lanes),
             }))
         }
-        None => Ok(Certified::RingUsed(first_ring(alloc, graph)?.unwrap())),
+        Numbering::Ring(ring) => Ok(Certified::RingUsed(ring)),
     }
 }

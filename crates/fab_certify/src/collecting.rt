@@ -5,19 +5,19 @@
 //! alone, since a switch has one entry for a LID, and the port by which they come to the next switch is that of
 //! the channel. So the route from each switch at each level is gone along once for a LID, and by each start one
 //! hop more: the lane of a start's first hop depends on the terminal's port.
-ghost use Rattle.std.specs.Prelude.{◌≡◌, ◌+◌, ◌*◌, ◌<◌, ◌^◌, length, IfOk, OnOk};
+ghost use Rattle.std.specs.Prelude.{◌≡◌, ◌+◌, ◌*◌, ◌<◌, ◌^◌, IfOk, OnOk};
 ghost use Rattle.fab_model.specs.Connected.{IsConnectedTo};
 ghost use Rattle.fab_tables.specs.Fit.{EntriesFit, LanesFit};
 ghost use Rattle.fab_tables.specs.Dependencies.{node_of as number_by_lane};
 ghost use Rattle.fab_tables.specs.Reaching.{IsToward};
-ghost use Rattle.fab_tables.specs.Starts.{StartsAt, AreStarts, IsOfTerminal};
+ghost use Rattle.fab_tables.specs.Judged.{IsRoomFor};
+ghost use Rattle.fab_tables.specs.Starts.{StartsAt, AreAllStarts, AreStartsFor, IsOfTerminal};
 ghost use Rattle.fab_certify.specs.Numbered.{IsSound};
 ghost use Rattle.fab_certify.specs.Collected.{Grows, IsFromRoutes, HasRoutes, HasRoutesFor, AreBehind, AreDependencies};
 
 use crate::dependencies::Dependencies;
-use crate::level_marks::LevelMarks;
 use fab_model::{Fabric, Lid};
-use fab_tables::{Components, Lanes, Start, Tables, VirtualChannel, hops};
+use fab_tables::{Components, Lanes, Marks, Start, Starts, Tables, VirtualChannel, hops};
 use std::alloc::{AllocError, Global};
 
 /// Collects the virtual channels that the routes of a plan use, and their dependencies. Their numbers are
@@ -29,18 +29,20 @@ pub(crate) fn collect(
     tables: &Tables,
     lanes: &Lanes,
     components: &Components,
-    starts: &[Start],
+    starts: &Starts,
+    marks: &mut Marks,
 ) -> Result<Dependencies, AllocError>
     requires tables { EntriesFit fabric.now tables.now }
     requires lanes { LanesFit fabric.now lanes.now }
     requires components { components.now ≡ fabric.now }
-    requires starts { AreStarts fabric.now starts.now }
+    requires starts { AreAllStarts fabric.now starts.now }
     requires sound { IsSound fabric.now tables.now lanes.now }
+    requires room { IsRoomFor fabric.now marks.old }
     ensures { IfOk result (AreDependencies fabric.now tables.now lanes.now) }
 {
     let nodes = fabric.channels() * u32::from(lanes.count());
     let mut dependencies = Dependencies::new(alloc, nodes)?;
-    let mut marks = LevelMarks::new(alloc, fabric.switches())?;
+    let starts = starts.standing(lanes);
     for lid in fabric.lids_in_use() {
         collect_for(
             fabric,
@@ -49,7 +51,7 @@ pub(crate) fn collect(
             *lid,
             components,
             starts,
-            &mut marks,
+            marks,
             &mut dependencies,
         )?;
     }
@@ -64,17 +66,17 @@ fn collect_for(
     lid: Lid,
     components: &Components,
     starts: &[Start],
-    marks: &mut LevelMarks,
+    marks: &mut Marks,
     dependencies: &mut Dependencies,
 ) -> Result<(), AllocError>
     requires toward { IsToward fabric.now tables.now lid.0 }
     requires lanes { LanesFit fabric.now lanes.now }
     requires components { components.now ≡ fabric.now }
-    requires starts { AreStarts fabric.now starts.now }
+    requires starts { AreStartsFor fabric.now lanes.now starts.now }
     requires sound { IsSound fabric.now tables.now lanes.now }
-    requires room { length marks.old ≡ length fabric.now.switches }
+    requires room { IsRoomFor fabric.now marks.old }
     requires before { IsFromRoutes fabric.now tables.now lanes.now dependencies.old }
-    ensures room { OnOk result (length marks.new ≡ length fabric.now.switches) }
+    ensures room { OnOk result (IsRoomFor fabric.now marks.new) }
     ensures from_routes { OnOk result (IsFromRoutes fabric.now tables.now lanes.now dependencies.new) }
     ensures grows { OnOk result (Grows dependencies.old dependencies.new) }
     ensures has { OnOk result (HasRoutesFor fabric.now tables.now lanes.now lid.0 dependencies.new) }
@@ -83,14 +85,9 @@ fn collect_for(
         return Ok(());
     };
     marks.clear();
-    // without maps of pairs all starts of a source are alike
-    let mut alike = None;
     for start in starts {
-        if alike != Some(start.switch) && components.are_connected(start.switch, place.switch) {
+        if components.are_connected(start.switch, place.switch) {
             collect_from(fabric, tables, lanes, lid, *start, marks, dependencies)?;
-            if lanes.pairs() == 0 {
-                alike = Some(start.switch);
-            }
         }
     }
     Ok(())
@@ -103,7 +100,7 @@ fn collect_from(
     lanes: &Lanes,
     lid: Lid,
     start: Start,
-    marks: &mut LevelMarks,
+    marks: &mut Marks,
     dependencies: &mut Dependencies,
 ) -> Result<(), AllocError>
     requires toward { IsToward fabric.now tables.now lid.0 }
@@ -111,10 +108,10 @@ fn collect_from(
     requires terminal { IsOfTerminal fabric.now start }
     requires connected { IsConnectedTo fabric.now start.switch.0 lid.0 }
     requires sound { IsSound fabric.now tables.now lanes.now }
-    requires room { length marks.old ≡ length fabric.now.switches }
+    requires room { IsRoomFor fabric.now marks.old }
     requires before { IsFromRoutes fabric.now tables.now lanes.now dependencies.old }
     requires behind { AreBehind fabric.now tables.now lanes.now lid.0 marks.old dependencies.old }
-    ensures room { OnOk result (length marks.new ≡ length fabric.now.switches) }
+    ensures room { OnOk result (IsRoomFor fabric.now marks.new) }
     ensures from_routes { OnOk result (IsFromRoutes fabric.now tables.now lanes.now dependencies.new) }
     ensures grows { OnOk result (Grows dependencies.old dependencies.new) }
     ensures behind { OnOk result (AreBehind fabric.now tables.now lanes.now lid.0 marks.new dependencies.new) }
@@ -144,15 +141,15 @@ fn collect_hops(
     lid: Lid,
     start: Start,
     level: u8,
-    marks: &mut LevelMarks,
+    marks: &mut Marks,
     dependencies: &mut Dependencies,
 ) -> Result<(), AllocError>
     requires starts { StartsAt fabric.now tables.now lanes.now lid.0 start level }
     requires sound { IsSound fabric.now tables.now lanes.now }
-    requires room { length marks.old ≡ length fabric.now.switches }
+    requires room { IsRoomFor fabric.now marks.old }
     requires before { IsFromRoutes fabric.now tables.now lanes.now dependencies.old }
     requires behind { AreBehind fabric.now tables.now lanes.now lid.0 marks.old dependencies.old }
-    ensures room { OnOk result (length marks.new ≡ length fabric.now.switches) }
+    ensures room { OnOk result (IsRoomFor fabric.now marks.new) }
     ensures from_routes { OnOk result (IsFromRoutes fabric.now tables.now lanes.now dependencies.new) }
     ensures grows { OnOk result (Grows dependencies.old dependencies.new) }
     ensures behind { OnOk result (AreBehind fabric.now tables.now lanes.now lid.0 marks.new dependencies.new) }
@@ -167,7 +164,9 @@ fn collect_hops(
         if known {
             return Ok(());
         }
-        known = marks.mark(fabric.channel(hop.channel).tail, level);
+        let at = fabric.channel(hop.channel).tail;
+        known = marks.is_marked(at, level);
+        marks.mark(at, level);
         before = Some(node);
     }
     Ok(())

@@ -5,11 +5,8 @@
 mod certified;
 mod collecting;
 mod dependencies;
-mod hops;
 mod lane_per_level;
-mod lanes;
 mod laws;
-mod level_marks;
 mod numbers;
 mod one_lane;
 

@@ -1,9 +1,9 @@
-use Rattle.std.proofs.Common.{◌≡◌, length}
+use Rattle.fab_tables.specs.Judged.{IsRoomFor}
 use Rattle.fab_certify.specs.Collected.{AreBehind}
 use Rattle.fab_certify.proofs.CollectingStarts.{AreCollectedFrom}
 use Rattle.fab_certify.proofs.collecting.collect_for.Given as goal
 
 abbrev pub invariant-loop-start : goal.invariant-loop-start
 invariant-loop-start l =
-    (length l.marks ≡ length l.fabric.switches) × AreBehind l.fabric l.tables l.lanes l.lid.0 l.marks l.dependencies
-    × AreCollectedFrom l.fabric l.tables l.lanes l.lid.0 l.starts l.initial.dependencies l.dependencies l.start-index l.alike
+    IsRoomFor l.fabric l.marks × AreBehind l.fabric l.tables l.lanes l.lid.0 l.marks l.dependencies
+    × AreCollectedFrom l.fabric l.tables l.lanes l.lid.0 l.starts l.initial.dependencies l.dependencies l.start-index
