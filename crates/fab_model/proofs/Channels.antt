@@ -8,7 +8,7 @@ use Rattle.fab_model.specs.declared.rows.ChannelRow.{ChannelRow}
 use Rattle.fab_model.specs.Topology.{Topology}
 use Rattle.fab_model.specs.WellFormed.{GoesBefore, IsWellFormed}
 use Rattle.fab_model.specs.Connected.{LeadsTo, LeadsAlong}
-use Rattle.fab_model.proofs.FaultlessMembers.{In, pairs_from_AllPairs, cases_pairs}
+use Rattle.fab_model.proofs.Lists.Members.{In, pairs_from_AllPairs, cases_pairs}
 
 -- what is read at a place is an element
 pub contains_read : {A : Type 0} (xs : List A) (k : ℕ) (x : A) → slice_get xs k ≡ Some x → Contains xs x

@@ -1,9 +1,21 @@
 -- Records without a fault make a fabric.
+pub mod Channels
+pub mod Count
+pub mod Facts
+pub mod Fields
+pub mod Lids
+pub mod Nodes
+pub mod NoFault
+pub mod Places
+pub mod Sound
+pub mod Terminals
+pub mod Types
+
 use Rattle.fab_model.specs.Laws.{FaultlessMake}
-use Rattle.fab_model.proofs.FaultlessFacts.{have_lines}
-use Rattle.fab_model.proofs.FaultlessSound.{are_sound, are_few}
-use Rattle.fab_model.proofs.FaultlessFields.{is_well_formed}
-use Rattle.fab_model.proofs.FaultlessTypes.{fits_types}
+use Rattle.fab_model.proofs.Faultless.Facts.{have_lines}
+use Rattle.fab_model.proofs.Faultless.Sound.{are_sound, are_few}
+use Rattle.fab_model.proofs.Faultless.Fields.{is_well_formed}
+use Rattle.fab_model.proofs.Faultless.Types.{fits_types}
 
 pub faultless_make : FaultlessMake
 faultless_make records are none = record {

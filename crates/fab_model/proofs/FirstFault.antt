@@ -1,4 +1,11 @@
 -- The first fault is that of the nodes, of the links or of the LIDs, whichever comes first.
+pub mod Ends
+pub mod Guids
+pub mod Lids
+pub mod Lines
+pub mod Repeats
+pub mod Stated
+
 use Rattle.std.proofs.Common.{◌≡◌, true, false, List, [], ◌∷◌, ◌++◌, Option, Some, None, Result, Ok, Err, refl, sym, ap, ◌∙◌, subst}
 use Rattle.std.specs.Option.{option_or}
 use Rattle.fab_text.specs.Readings.{Unless, Gives}

@@ -1,4 +1,13 @@
 -- The rows of a fabric, written out as raw records, make it.
+pub mod Kinds
+pub mod Laid
+pub mod Lines
+pub mod Nodes
+pub mod NoFault
+pub mod Rows
+pub mod Sound
+pub mod States
+
 use Rattle.std.proofs.Common.{◌≡◌, inl, inr, List, length, Some, None, Ok, Option, refl, sym, ◌∙◌, ap, subst, arith, length-append}
 use Rattle.std.specs.Prelude.{map}
 use Rattle.std.proofs.lemmas.List.{length-map}
@@ -17,16 +26,16 @@ use Rattle.fab_model.specs.Built.{topology_of, unless_faulty, switch_rows, adapt
 use Rattle.fab_model.specs.Laws.{WellFormedMakeThemselves}
 use Rattle.fab_model.specs.Written as written
 use Rattle.fab_model.specs.Written.{records_of}
-use Rattle.fab_model.proofs.FaultlessMembers.{In}
-use Rattle.fab_model.proofs.FaultlessFacts.{node_claim, link_claim, switch_nodes, adapter_links}
-use Rattle.fab_model.proofs.FaultlessSound.{AreFew, are_sound, are_few}
-use Rattle.fab_model.proofs.FaultlessNodes.{length-switch_rows}
-use Rattle.fab_model.proofs.FaultlessFields.{terminals, length-terminals, is_well_formed}
-use Rattle.fab_model.proofs.MakesItselfNodes.{own_link_is_stated}
-use Rattle.fab_model.proofs.MakesItselfSound.{own_are_sound, from_claims, switch_of_head, end_of_link}
-use Rattle.fab_model.proofs.MakesItselfRows.{own_switch_rows, own_adapter_rows, own_channel_rows, own_terminal_rows}
-use Rattle.fab_model.proofs.MakesItselfLines.{own_lines}
-use Rattle.fab_model.proofs.MakesItselfNone.{AreComplete, no_fault_of}
+use Rattle.fab_model.proofs.Lists.Members.{In}
+use Rattle.fab_model.proofs.Faultless.Facts.{node_claim, link_claim, switch_nodes, adapter_links}
+use Rattle.fab_model.proofs.Faultless.Sound.{AreFew, are_sound, are_few}
+use Rattle.fab_model.proofs.Faultless.Nodes.{length-switch_rows}
+use Rattle.fab_model.proofs.Faultless.Fields.{terminals, length-terminals, is_well_formed}
+use Rattle.fab_model.proofs.MakesItself.Nodes.{own_link_is_stated}
+use Rattle.fab_model.proofs.MakesItself.Sound.{own_are_sound, from_claims, switch_of_head, end_of_link}
+use Rattle.fab_model.proofs.MakesItself.Rows.{own_switch_rows, own_adapter_rows, own_channel_rows, own_terminal_rows}
+use Rattle.fab_model.proofs.MakesItself.Lines.{own_lines}
+use Rattle.fab_model.proofs.MakesItself.NoFault.{AreComplete, no_fault_of}
 
 own_are_few : (fabric : Topology) → IsWellFormed fabric → AreFew (records_of fabric)
 own_are_few fabric rows =

@@ -123,7 +123,7 @@ fn switch_count(nodes: &[RawNode]) -> usize
 }
 
 /// The line of the first node with too many ports or link at a port that its node does not have.
-#[tactic(auto, using(crate::proofs::FirstFaultLines::least_append))]
+#[tactic(auto, using(crate::proofs::FirstFault::Lines::least_append))]
 fn port_out_of_range(raw: &Raw) -> Option<u32>
     ensures { result ≡ least (node_lines has_too_many_ports raw.now ++ link_lines is_off_its_node raw.now) }
 {

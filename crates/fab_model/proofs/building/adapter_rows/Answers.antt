@@ -1,9 +1,9 @@
 use Rattle.std.proofs.Common.{◌≤◌, ap, arith, rules, length}
 use Rattle.std.proofs.lemmas.List.Sorted.{answers_always}
 use Rattle.fab_model.specs.Faults.{port_limit}
-use Rattle.fab_model.proofs.BuildingBounds.{All-item, node_ports}
-use Rattle.fab_model.proofs.BuildingRows.{adapter_rows-sorted}
-use Rattle.fab_model.proofs.Sorted.{in_order-by_number}
+use Rattle.fab_model.proofs.Made.Bounds.{All-item, node_ports}
+use Rattle.fab_model.proofs.Made.Rows.{adapter_rows-sorted}
+use Rattle.fab_model.proofs.Lists.Sorted.{in_order-by_number}
 use Rattle.fab_model.proofs.building.adapter_rows.Goals as goal
 
 pub overflow_cast-node : goal.overflow_cast-node

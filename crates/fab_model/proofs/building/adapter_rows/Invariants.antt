@@ -1,6 +1,6 @@
 use Rattle.std.proofs.Common.{◌≡◌, take, map, filter}
 use Rattle.fab_model.specs.Records.{is_adapter}
-use Rattle.fab_model.proofs.BuildingRows.{adapter_row}
+use Rattle.fab_model.proofs.Made.Rows.{adapter_row}
 use Rattle.fab_model.proofs.building.adapter_rows.Given as goal
 
 abbrev pub invariant-loop-node : goal.invariant-loop-node

@@ -1,17 +1,17 @@
 use Rattle.std.proofs.Common.{◌≤◌, length, true, false, sym, ap, ◌∙◌, subst, arith, rules, append-nil, ℕ}
 use Rattle.std.specs.Prelude.{◌<◌, AllPairs}
-use Rattle.fab_model.proofs.BuildingNumbers.{switches_rise}
+use Rattle.fab_model.proofs.Made.Numbers.{switches_rise}
 use Rattle.fab_model.specs.declared.rows.SwitchRow.{SwitchRow}
 use Rattle.fab_model.specs.declared.rows.ChannelRow.{ChannelRow}
 use Rattle.fab_model.specs.declared.rows.SwitchId.{SwitchId}
 use Rattle.std.proofs.lemmas.Cmp.{then_total, on_total, nat_cmp_total}
 use Rattle.std.proofs.lemmas.List.Sorted.{answers_always}
-use Rattle.fab_model.proofs.Sorted.{in_order-by_key}
+use Rattle.fab_model.proofs.Lists.Sorted.{in_order-by_key}
 use Rattle.fab_model.specs.Faults.{port_limit}
 use Rattle.fab_model.specs.Built as build
-use Rattle.fab_model.proofs.BuildingBounds.{small_ports, far_ports}
-use Rattle.fab_model.proofs.BuildingRows.{switch_rows-count}
-use Rattle.fab_model.proofs.BuildingLinks.{joins_switches, holds_at, rows_of-step, no_link, channel_rows-sorted, by_tail-compared}
+use Rattle.fab_model.proofs.Made.Bounds.{small_ports, far_ports}
+use Rattle.fab_model.proofs.Made.Rows.{switch_rows-count}
+use Rattle.fab_model.proofs.Made.Links.{joins_switches, holds_at, rows_of-step, no_link, channel_rows-sorted, by_tail-compared}
 use Rattle.fab_model.proofs.building.channel_rows.Goals as goal
 use Rattle.fab_model.proofs.building.channel_rows.Goals.{then-joins_switches+in_ok-push, else-joins_switches}
 

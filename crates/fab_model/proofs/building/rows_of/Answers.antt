@@ -3,7 +3,7 @@ use Rattle.fab_model.specs.declared.rows.SwitchRow.{SwitchRow}
 use Rattle.fab_model.specs.declared.rows.AdapterRow.{AdapterRow}
 use Rattle.fab_model.specs.Built.{topology_of}
 use Rattle.fab_model.specs.Built as build
-use Rattle.fab_model.proofs.BuildingLinks.{made_topology}
+use Rattle.fab_model.proofs.Made.Links.{made_topology}
 use Rattle.fab_model.proofs.building.rows_of.Goals as goal
 
 pub returns-clause-rows : goal.returns-clause-rows

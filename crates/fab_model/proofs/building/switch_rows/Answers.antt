@@ -2,9 +2,9 @@ use Rattle.std.proofs.Common.{◌≡◌, ◌≤◌, true, sym, ◌∙◌, ap, ar
 use Rattle.std.proofs.lemmas.List.Sorted.{answers_always}
 use Rattle.fab_model.specs.Records.{is_switch}
 use Rattle.fab_model.specs.Faults.{port_limit, greatest_lid}
-use Rattle.fab_model.proofs.BuildingBounds.{All-item, switch_lids, node_ports}
-use Rattle.fab_model.proofs.BuildingRows.{is_switch-same, switch_rows-sorted}
-use Rattle.fab_model.proofs.Sorted.{in_order-by_number}
+use Rattle.fab_model.proofs.Made.Bounds.{All-item, switch_lids, node_ports}
+use Rattle.fab_model.proofs.Made.Rows.{is_switch-same, switch_rows-sorted}
+use Rattle.fab_model.proofs.Lists.Sorted.{in_order-by_number}
 use Rattle.fab_model.proofs.building.switch_rows.Goals as goal
 
 pub overflow_cast-node : goal.overflow_cast-node

@@ -1,6 +1,6 @@
 use Rattle.std.proofs.Common.{◌≡◌, ◌≤◌, length, true, false, sym, ap, ◌∙◌, subst, arith, rules, append-nil}
 use Rattle.std.specs.Prelude.{◌<◌, AllPairs}
-use Rattle.fab_model.proofs.BuildingNumbers.{switches_rise, adapters_rise}
+use Rattle.fab_model.proofs.Made.Numbers.{switches_rise, adapters_rise}
 use Rattle.std.proofs.lemmas.Cmp.{nat_cmp_total, on_total}
 use Rattle.std.proofs.lemmas.List.Sorted.{answers_always}
 use Rattle.fab_model.specs.declared.rows.Lid.{Lid}
@@ -10,10 +10,10 @@ use Rattle.fab_model.specs.declared.rows.TerminalRow.{TerminalRow}
 use Rattle.fab_model.specs.Records.{is_adapter}
 use Rattle.fab_model.specs.Faults.{port_limit, greatest_lid}
 use Rattle.fab_model.specs.Built as build
-use Rattle.fab_model.proofs.BuildingBounds.{small_ports, far_ports, link_lids}
-use Rattle.fab_model.proofs.BuildingRows.{is_adapter-same, switch_rows-count, adapter_rows-count}
-use Rattle.fab_model.proofs.BuildingLinks.{is_under_adapter, holds_at, rows_of-step, no_link, terminal_rows-sorted}
-use Rattle.fab_model.proofs.Sorted.{in_order-by_key, is_lt-nat}
+use Rattle.fab_model.proofs.Made.Bounds.{small_ports, far_ports, link_lids}
+use Rattle.fab_model.proofs.Made.Rows.{is_adapter-same, switch_rows-count, adapter_rows-count}
+use Rattle.fab_model.proofs.Made.Links.{is_under_adapter, holds_at, rows_of-step, no_link, terminal_rows-sorted}
+use Rattle.fab_model.proofs.Lists.Sorted.{in_order-by_key, is_lt-nat}
 use Rattle.fab_model.proofs.building.terminal_rows.Goals as goal
 use Rattle.fab_model.proofs.building.terminal_rows.Goals.{then-eq+in_ok-push, else-eq}
 

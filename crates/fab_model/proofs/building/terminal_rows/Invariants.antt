@@ -1,6 +1,6 @@
 use Rattle.std.proofs.Common.{◌≡◌, take}
 use Rattle.fab_model.specs.Built as build
-use Rattle.fab_model.proofs.BuildingLinks.{is_under_adapter, rows_of}
+use Rattle.fab_model.proofs.Made.Links.{is_under_adapter, rows_of}
 use Rattle.fab_model.proofs.building.terminal_rows.Given as goal
 
 abbrev pub invariant-loop-link : goal.invariant-loop-link

@@ -2,7 +2,7 @@ use Rattle.std.proofs.Common.{rules}
 use Rattle.fab_model.specs.Records.{stated}
 use Rattle.fab_model.specs.Faults.{is_one_sided}
 use Rattle.fab_model.specs.FirstFault.{ends_of}
-use Rattle.fab_model.proofs.FirstFaultEnds.{any_other_side}
+use Rattle.fab_model.proofs.FirstFault.Ends.{any_other_side}
 use Rattle.fab_model.proofs.first_fault.ends.one_sided.Goals as goal
 
 pub returns : goal.returns

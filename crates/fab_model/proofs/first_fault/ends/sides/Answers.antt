@@ -2,8 +2,8 @@ use Rattle.std.proofs.Common.{rules, arith, cond, true, sym, ap, ◌∙◌, ◌|
 use Rattle.std.specs.List.{list_any}
 use Rattle.fab_model.specs.Records.{stated}
 use Rattle.fab_model.specs.FirstFault.{ends_of, same_side}
-use Rattle.fab_model.proofs.FirstFaultStated.{any_stated_more}
-use Rattle.fab_model.proofs.FirstFaultRepeats.{true-or}
+use Rattle.fab_model.proofs.FirstFault.Stated.{any_stated_more}
+use Rattle.fab_model.proofs.FirstFault.Repeats.{true-or}
 use Rattle.fab_model.proofs.first_fault.ends.sides.Goals as goal
 
 pub loop-link-preserved : goal.loop-link-preserved

@@ -4,9 +4,9 @@ use Rattle.std.specs.HashMap.{get}
 use Rattle.std.proofs.lemmas.List.{take_all}
 use Rattle.fab_model.specs.FirstFault.{lesser}
 use Rattle.fab_model.specs.Faults.{least, node_lines}
-use Rattle.fab_model.proofs.FirstFaultLines.{claims_of_node, lesser-none, least_claim_lines}
-use Rattle.fab_model.proofs.FirstFaultStated.{no_link}
-use Rattle.fab_model.proofs.FirstFaultLids.{of_ports, of_switches_more, of_ports_more}
+use Rattle.fab_model.proofs.FirstFault.Lines.{claims_of_node, lesser-none, least_claim_lines}
+use Rattle.fab_model.proofs.FirstFault.Stated.{no_link}
+use Rattle.fab_model.proofs.FirstFault.Lids.{of_ports, of_switches_more, of_ports_more}
 use Rattle.fab_model.proofs.first_fault.lids.first_lines.Goals as goal
 use Rattle.fab_model.proofs.first_fault.lids.first_lines.Goals.{then-is_switch+in_ok-keep_first, else-is_switch, then-not-is_switch+in_ok-keep_first-2, else-not-is_switch}
 

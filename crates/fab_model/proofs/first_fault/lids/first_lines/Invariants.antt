@@ -4,7 +4,7 @@ use Rattle.std.specs.HashMap.{get}
 use Rattle.fab_model.specs.Records.{stated}
 use Rattle.fab_model.specs.Faults.{least, node_lines}
 use Rattle.fab_model.specs.FirstFault.{lesser}
-use Rattle.fab_model.proofs.FirstFaultLines.{claims_of_node, claims_of_link}
+use Rattle.fab_model.proofs.FirstFault.Lines.{claims_of_node, claims_of_link}
 use Rattle.fab_model.proofs.first_fault.lids.first_lines.Given as goal
 
 abbrev pub invariant-loop-node : goal.invariant-loop-node

@@ -2,7 +2,7 @@ use Rattle.std.proofs.Common.{rules, arith, true, false, ◌+◌, ap, sym, ◌�
 use Rattle.std.specs.Prelude.{count_by}
 use Rattle.std.proofs.lemmas.List.{take_all}
 use Rattle.fab_model.specs.Records.{is_switch}
-use Rattle.fab_model.proofs.FirstFaultLids.{port_count, port_count_more, claims_count}
+use Rattle.fab_model.proofs.FirstFault.Lids.{port_count, port_count_more, claims_count}
 use Rattle.fab_model.proofs.first_fault.lids.lid_count.Goals as goal
 use Rattle.fab_model.proofs.first_fault.lids.lid_count.Goals.{then-not-is_switch, else-not-is_switch}
 

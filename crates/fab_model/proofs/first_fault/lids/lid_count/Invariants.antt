@@ -1,5 +1,5 @@
 use Rattle.std.proofs.Common.{◌≡◌, ◌≤◌, take}
-use Rattle.fab_model.proofs.FirstFaultLids.{port_count}
+use Rattle.fab_model.proofs.FirstFault.Lids.{port_count}
 use Rattle.fab_model.proofs.first_fault.lids.lid_count.Given as goal
 
 abbrev pub invariant-loop-link : goal.invariant-loop-link

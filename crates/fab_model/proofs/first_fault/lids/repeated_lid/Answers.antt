@@ -4,8 +4,8 @@ use Rattle.std.specs.HashMap.{get}
 use Rattle.fab_model.specs.Records.{is_switch, is_adapter}
 use Rattle.fab_model.specs.Faults.{repeats_lid}
 use Rattle.fab_model.specs.FirstFault.{lesser, is_later}
-use Rattle.fab_model.proofs.FirstFaultLines.{claims_of_node, claims_of_link, least_claim_lines}
-use Rattle.fab_model.proofs.FirstFaultLids.{repeats_where_later}
+use Rattle.fab_model.proofs.FirstFault.Lines.{claims_of_node, claims_of_link, least_claim_lines}
+use Rattle.fab_model.proofs.FirstFault.Lids.{repeats_where_later}
 use Rattle.fab_model.proofs.first_fault.lids.repeated_lid.Goals as goal
 
 pub returns : goal.returns

@@ -1,6 +1,6 @@
 use Rattle.std.proofs.Common.{rules}
 use Rattle.fab_model.specs.Faults.{has_lmc}
-use Rattle.fab_model.proofs.FirstFaultLines.{least_claim_lines}
+use Rattle.fab_model.proofs.FirstFault.Lines.{least_claim_lines}
 use Rattle.fab_model.proofs.first_fault.lids.with_lmc.Goals as goal
 
 pub returns : goal.returns

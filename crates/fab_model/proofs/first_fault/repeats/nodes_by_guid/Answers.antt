@@ -5,9 +5,9 @@ use Rattle.indexmap.specs.IndexMap.{get}
 use Rattle.fab_model.specs.declared.raw.RawNode.{RawNode}
 use Rattle.fab_model.specs.declared.fault.FabricFault.TheVariants.{TwiceGuid}
 use Rattle.fab_model.specs.FirstFault.{is_of_kind}
-use Rattle.fab_model.proofs.FirstFaultLines.{node_lines_found}
-use Rattle.fab_model.proofs.FirstFaultRepeats.{guid_turn}
-use Rattle.fab_model.proofs.FirstFaultGuids.{by_guid_more, mapped_ok, none_there}
+use Rattle.fab_model.proofs.FirstFault.Lines.{node_lines_found}
+use Rattle.fab_model.proofs.FirstFault.Repeats.{guid_turn}
+use Rattle.fab_model.proofs.FirstFault.Guids.{by_guid_more, mapped_ok, none_there}
 use Rattle.fab_model.proofs.first_fault.repeats.nodes_by_guid.Goals as goal
 
 pub loop-node-init : goal.loop-node-init

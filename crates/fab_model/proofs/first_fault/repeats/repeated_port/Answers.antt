@@ -2,8 +2,8 @@ use Rattle.std.proofs.Common.{rules, arith, get_or, nat_eq, cond, true, sym, ap,
 use Rattle.std.specs.Prelude.{◌&&◌}
 use Rattle.std.proofs.lemmas.Grind.{common_steps}
 use Rattle.std.proofs.lemmas.List.Folds.{list_any_more}
-use Rattle.fab_model.proofs.FirstFaultStated.{no_link}
-use Rattle.fab_model.proofs.FirstFaultRepeats.{true-or, port_start, port_turn}
+use Rattle.fab_model.proofs.FirstFault.Stated.{no_link}
+use Rattle.fab_model.proofs.FirstFault.Repeats.{true-or, port_start, port_turn}
 use Rattle.fab_model.proofs.first_fault.repeats.repeated_port.Goals as goal
 
 pub loop-link-init : goal.loop-link-init

@@ -3,7 +3,7 @@ use Rattle.std.specs.Prelude.{◌&&◌, find, option_map}
 use Rattle.std.specs.List.{list_any}
 use Rattle.std.specs.HashSet.{contains}
 use Rattle.fab_model.specs.Faults.{least, link_lines, repeats_port}
-use Rattle.fab_model.proofs.FirstFaultRepeats.{repeats_link}
+use Rattle.fab_model.proofs.FirstFault.Repeats.{repeats_link}
 use Rattle.fab_model.proofs.first_fault.repeats.repeated_port.Given as goal
 
 abbrev pub invariant-loop-link : goal.invariant-loop-link

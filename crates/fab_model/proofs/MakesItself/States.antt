@@ -13,10 +13,10 @@ use Rattle.fab_model.specs.Records.{Stated, stated}
 use Rattle.fab_model.specs.Topology.{Topology, ports_of, leaves_by, is_cabled_at}
 use Rattle.fab_model.specs.WellFormed.{IsWellFormed, IsPort, GoesBefore, UseOtherPorts, AreOtherPorts, adapter_ports_of}
 use Rattle.fab_model.specs.Written.{Block, blocks, records_of, switch_block, adapter_block, switch_link, terminal_link, adapter_link, port_numbers, is_on_adapter}
-use Rattle.fab_model.proofs.FaultlessMembers.{In, in_all, pairs_from_AllPairs, cases_pairs, in_left, in_right, in_map}
-use Rattle.fab_model.proofs.MakesItselfLists.{in_filter_map, find_only, find_none, in_enumerate, in_range, slice_get_some}
-use Rattle.fab_model.proofs.MakesItselfLaid.{IsLaid, in_stated_of}
-use Rattle.fab_model.proofs.MakesItselfKinds.{IsChannelLink, IsSwitchEnd, IsAdapterEnd, channel_raw, switch_end_raw, adapter_end_raw, channel_kind, switch_end_kind, adapter_end_kind, stated_is, ports_at, adapter_ports_at}
+use Rattle.fab_model.proofs.Lists.Members.{In, in_all, pairs_from_AllPairs, cases_pairs, in_left, in_right, in_map}
+use Rattle.fab_model.proofs.Lists.Found.{in_filter_map, find_only, find_none, in_enumerate, in_range, slice_get_some}
+use Rattle.fab_model.proofs.MakesItself.Laid.{IsLaid, in_stated_of}
+use Rattle.fab_model.proofs.MakesItself.Kinds.{IsChannelLink, IsSwitchEnd, IsAdapterEnd, channel_raw, switch_end_raw, adapter_end_raw, channel_kind, switch_end_kind, adapter_end_kind, stated_is, ports_at, adapter_ports_at}
 
 -- ---- the blocks of nodes
 

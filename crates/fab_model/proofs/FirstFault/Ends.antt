@@ -9,7 +9,7 @@ use Rattle.fab_model.specs.declared.raw.NodeKind.TheVariants.{Switch, Adapter}
 use Rattle.fab_model.specs.Records.{Stated, is_switch, same_kind}
 use Rattle.fab_model.specs.Faults.{is_other_side}
 use Rattle.fab_model.specs.FirstFault.{ends_of, same_side}
-use Rattle.fab_model.proofs.FirstFaultRepeats.{any-same}
+use Rattle.fab_model.proofs.FirstFault.Repeats.{any-same}
 
 beq-kinds : (first second : NodeKind) → beq (is_switch first) (is_switch second) ≡ same_kind first second
 beq-kinds Switch Switch = refl

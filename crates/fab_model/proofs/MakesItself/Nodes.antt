@@ -10,13 +10,13 @@ use Rattle.fab_model.specs.Records.{Stated, stated, is_switch}
 use Rattle.fab_model.specs.Topology.{Topology, leaves_by, is_cabled_at}
 use Rattle.fab_model.specs.WellFormed.{IsWellFormed}
 use Rattle.fab_model.specs.Written.{Block, blocks, records_of, switch_block, adapter_block, switch_link, channel_link, terminal_link, adapter_link, port_numbers, is_on_adapter}
-use Rattle.fab_model.proofs.FaultlessMembers.{In, Pairs, in_all, from_map, pairs_from_AllPairs, pairs_weaker, pairs_map, pairs_join, pairs_filter_map}
-use Rattle.fab_model.proofs.FaultlessFacts.{UseOthers, from_option_map, slice_get_in}
-use Rattle.fab_model.proofs.FaultlessNodes.{switch_row, adapter_row}
-use Rattle.fab_model.proofs.MakesItselfLists.{from_enumerate, pairs_enumerate, range_rises, place_of_in}
-use Rattle.fab_model.proofs.MakesItselfLaid.{OtherHeads, from_laid_nodes, in_laid_nodes, guids_laid, use_others_laid, link_is_stated}
-use Rattle.fab_model.proofs.MakesItselfKinds.{from_blocks, from_option_or, channel_raw, switch_end_raw, adapter_end_raw, stated_is}
-use Rattle.fab_model.proofs.MakesItselfStates.{switch_block_within, adapter_block_within}
+use Rattle.fab_model.proofs.Lists.Members.{In, Pairs, in_all, from_map, pairs_from_AllPairs, pairs_weaker, pairs_map, pairs_join, pairs_filter_map}
+use Rattle.fab_model.proofs.Faultless.Facts.{UseOthers, from_option_map, slice_get_in}
+use Rattle.fab_model.proofs.Faultless.Nodes.{switch_row, adapter_row}
+use Rattle.fab_model.proofs.Lists.Found.{from_enumerate, pairs_enumerate, range_rises, place_of_in}
+use Rattle.fab_model.proofs.MakesItself.Laid.{OtherHeads, from_laid_nodes, in_laid_nodes, guids_laid, use_others_laid, link_is_stated}
+use Rattle.fab_model.proofs.MakesItself.Kinds.{from_blocks, from_option_or, channel_raw, switch_end_raw, adapter_end_raw, stated_is}
+use Rattle.fab_model.proofs.MakesItself.States.{switch_block_within, adapter_block_within}
 
 -- a head states a row
 pub record IsSwitchHead (row : SwitchRow) (node : RawNode) : Type 0 where

@@ -1,7 +1,7 @@
 -- Elements of lists that are put together from parts, and lists of different numbers.
 use Rattle.std.proofs.Common.{◌≡◌, ◌≢◌, ℕ, suc, ◌≤◌, inl, inr, List, [], ◌∷◌, ◌++◌, length, refl, sym, ◌∙◌, ap, subst, arith}
 use Rattle.std.specs.Prelude.{flat_map}
-use Rattle.fab_model.proofs.FaultlessMembers.{In, Pairs, from_append, pairs_join, in_left, in_right}
+use Rattle.fab_model.proofs.Lists.Members.{In, Pairs, from_append, pairs_join, in_left, in_right}
 
 pub from_flat_map : {X Y : Type 0} (f : X → List Y) (xs : List X) (y : Y) → In y (flat_map f xs) → (x : X) × In x xs × In y (f x)
 from_flat_map f [] y within = absurd within

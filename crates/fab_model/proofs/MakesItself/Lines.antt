@@ -5,8 +5,8 @@ use Rattle.fab_model.specs.declared.raw.RawNode.{RawNode}
 use Rattle.fab_model.specs.declared.raw.RawLink.{RawLink}
 use Rattle.fab_model.specs.Topology.{Topology}
 use Rattle.fab_model.specs.Written.{Block, blocks, laid_links, laid_out, records_of}
-use Rattle.fab_model.proofs.FaultlessMembers.{In, Pairs, All_from_in, AllPairs_from_pairs, from_append, pairs_join}
-use Rattle.fab_model.proofs.FaultlessFacts.{HaveLines}
+use Rattle.fab_model.proofs.Lists.Members.{In, Pairs, All_from_in, AllPairs_from_pairs, from_append, pairs_join}
+use Rattle.fab_model.proofs.Faultless.Facts.{HaveLines}
 
 links_between : (links : List RawLink) (line node : ℕ) (l : RawLink) → In l (laid_links line node links) → (line ≤ l.line) × (l.line < line + length links)
 links_between [] line node l within = absurd within

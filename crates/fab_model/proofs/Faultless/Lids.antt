@@ -7,9 +7,9 @@ use Rattle.fab_model.specs.declared.raw.RawNode.{RawNode}
 use Rattle.fab_model.specs.Records.{Records, Stated, stated, is_switch, is_adapter}
 use Rattle.fab_model.specs.Faults.{Claim, lid_limit}
 use Rattle.fab_model.specs.WellFormed.{IsUnicast}
-use Rattle.fab_model.proofs.FaultlessMembers.{In, Pairs, pairs_left, pairs_right, pairs_append, pairs_from_map, in_map, in_left, in_right, in_filter}
-use Rattle.fab_model.proofs.FaultlessFacts.{node_claim, link_claim, switch_nodes, adapter_links}
-use Rattle.fab_model.proofs.FaultlessSound.{AreSound, AreFew}
+use Rattle.fab_model.proofs.Lists.Members.{In, Pairs, pairs_left, pairs_right, pairs_append, pairs_from_map, in_map, in_left, in_right, in_filter}
+use Rattle.fab_model.proofs.Faultless.Facts.{node_claim, link_claim, switch_nodes, adapter_links}
+use Rattle.fab_model.proofs.Faultless.Sound.{AreSound, AreFew}
 
 abbrev OtherLids : Claim → Claim → Type 0
 OtherLids one other = one.lid ≢ other.lid

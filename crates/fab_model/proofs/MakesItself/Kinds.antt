@@ -15,10 +15,10 @@ use Rattle.fab_model.specs.Records.{Stated, stated, is_switch}
 use Rattle.fab_model.specs.Topology.{Topology, guid_of, ports_of, leaves_by, is_cabled_at}
 use Rattle.fab_model.specs.WellFormed.{adapter_ports_of}
 use Rattle.fab_model.specs.Written.{Block, blocks, records_of, switch_block, adapter_block, switch_link, channel_link, terminal_link, adapter_link, port_numbers, adapter_guid_of, is_on_adapter}
-use Rattle.fab_model.proofs.FaultlessMembers.{In, from_append, from_map, from_filter_map}
-use Rattle.fab_model.proofs.FaultlessFacts.{from_option_map}
-use Rattle.fab_model.proofs.MakesItselfLists.{from_find, from_enumerate}
-use Rattle.fab_model.proofs.MakesItselfLaid.{IsLaid, stated_of, stated_laid, from_stated_of}
+use Rattle.fab_model.proofs.Lists.Members.{In, from_append, from_map, from_filter_map}
+use Rattle.fab_model.proofs.Faultless.Facts.{from_option_map}
+use Rattle.fab_model.proofs.Lists.Found.{from_find, from_enumerate}
+use Rattle.fab_model.proofs.MakesItself.Laid.{IsLaid, stated_of, stated_laid, from_stated_of}
 
 -- a link between two switches states a channel
 pub record IsChannelLink (fabric : Topology) (row : ChannelRow) (one : Stated) : Type 0 where

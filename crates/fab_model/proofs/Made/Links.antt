@@ -19,7 +19,7 @@ use Rattle.fab_model.specs.InOrder.{in_order}
 use Rattle.fab_model.specs.Topology.{Topology}
 use Rattle.fab_model.specs.Built.{topology_of}
 use Rattle.fab_model.specs.Built as build
-use Rattle.fab_model.proofs.BuildingBounds.{stated_link, stated_all}
+use Rattle.fab_model.proofs.Made.Bounds.{stated_link, stated_all}
 
 abbrev pub joins_switches : Stated → Bool
 joins_switches one = is_switch one.node.kind && is_switch one.link.far_kind

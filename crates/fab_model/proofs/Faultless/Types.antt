@@ -11,10 +11,10 @@ use Rattle.fab_model.specs.Description.{IsDescription}
 use Rattle.fab_model.specs.Records.{Records, AreRecords}
 use Rattle.fab_model.specs.WellFormed.{FitsTypes}
 use Rattle.fab_model.specs.Built.{topology_of, switch_rows, adapter_rows, terminal_rows}
-use Rattle.fab_model.proofs.FaultlessMembers.{In, All_from_in, in_all}
-use Rattle.fab_model.proofs.FaultlessFacts.{from_stated}
-use Rattle.fab_model.proofs.FaultlessNodes.{switch_row, adapter_row, tests_adapter, from_switch_rows, from_adapter_rows, length-adapter_rows}
-use Rattle.fab_model.proofs.FaultlessTerminals.{from_terminal_rows}
+use Rattle.fab_model.proofs.Lists.Members.{In, All_from_in, in_all}
+use Rattle.fab_model.proofs.Faultless.Facts.{from_stated}
+use Rattle.fab_model.proofs.Faultless.Nodes.{switch_row, adapter_row, tests_adapter, from_switch_rows, from_adapter_rows, length-adapter_rows}
+use Rattle.fab_model.proofs.Faultless.Terminals.{from_terminal_rows}
 
 all_switches : (records : Records) (P : SwitchRow → Type 0) → ((node : RawNode) → In node records.nodes → P (switch_row node)) → All P (switch_rows records)
 all_switches records P each =

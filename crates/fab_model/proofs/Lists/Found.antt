@@ -4,8 +4,8 @@ use Rattle.std.specs.Prelude.{filter_map, find, slice_get}
 use Rattle.std.specs.List.{cons_option, enumerate_from, range_with_len}
 use Rattle.std.proofs.lemmas.Bool.{cases_Bool, cases_eq, cases_order, both_ways, cond-true, cond-false}
 use Rattle.std.proofs.lemmas.Option.{same_Some}
-use Rattle.fab_model.proofs.FaultlessMembers.{In, Pairs}
-use Rattle.fab_model.proofs.FaultlessFacts.{slice_get_in}
+use Rattle.fab_model.proofs.Lists.Members.{In, Pairs}
+use Rattle.fab_model.proofs.Faultless.Facts.{slice_get_in}
 
 -- ---- filter_map
 

@@ -14,15 +14,15 @@ use Rattle.fab_model.specs.InOrder.{in_order}
 use Rattle.fab_model.specs.Topology.{reversed}
 use Rattle.fab_model.specs.WellFormed.{IsWellFormed, GoesBefore, IsUnicast, IsPort, UseOtherPorts, AreOtherPorts}
 use Rattle.fab_model.specs.Built.{topology_of, switch_rows, adapter_rows, channel_rows, terminal_rows, channel_row, terminal_row, switch_number, by_guid, by_lid}
-use Rattle.fab_model.proofs.FaultlessMembers.{In, Pairs, All_from_in, AllPairs_from_pairs, Contains_from_in, length_from_in, cases_pairs, pairs_map}
-use Rattle.fab_model.proofs.FaultlessOrder.{pairs_in_order}
-use Rattle.fab_model.proofs.FaultlessFacts.{adapter_links, switch_nodes}
-use Rattle.fab_model.proofs.FaultlessSound.{AreSound, AreFew}
-use Rattle.fab_model.proofs.FaultlessNodes.{switch_row, adapter_row, from_switch_rows, in_switch_rows, length-switch_rows, switch_rows_rise, from_adapter_rows, adapter_rows_rise}
-use Rattle.fab_model.proofs.FaultlessLids as lid
-use Rattle.fab_model.proofs.FaultlessChannels as channel
-use Rattle.fab_model.proofs.FaultlessTerminals as terminal
-use Rattle.fab_model.proofs.FaultlessCount.{channels_within}
+use Rattle.fab_model.proofs.Lists.Members.{In, Pairs, All_from_in, AllPairs_from_pairs, Contains_from_in, length_from_in, cases_pairs, pairs_map}
+use Rattle.fab_model.proofs.Lists.InOrder.{pairs_in_order}
+use Rattle.fab_model.proofs.Faultless.Facts.{adapter_links, switch_nodes}
+use Rattle.fab_model.proofs.Faultless.Sound.{AreSound, AreFew}
+use Rattle.fab_model.proofs.Faultless.Nodes.{switch_row, adapter_row, from_switch_rows, in_switch_rows, length-switch_rows, switch_rows_rise, from_adapter_rows, adapter_rows_rise}
+use Rattle.fab_model.proofs.Faultless.Lids as lid
+use Rattle.fab_model.proofs.Faultless.Channels as channel
+use Rattle.fab_model.proofs.Faultless.Terminals as terminal
+use Rattle.fab_model.proofs.Faultless.Count.{channels_within}
 use Rattle.fab_model.proofs.Order.{length-in_order}
 
 -- what holds of each row, from what holds of each node or link

@@ -12,13 +12,13 @@ use Rattle.fab_model.specs.Faults.{Claim, claims, port_limit}
 use Rattle.fab_model.specs.Topology.{Topology, ports_of, reversed}
 use Rattle.fab_model.specs.WellFormed.{IsWellFormed, IsPort, IsUnicast, adapter_ports_of}
 use Rattle.fab_model.specs.Written.{records_of, adapter_guid_of}
-use Rattle.fab_model.proofs.FaultlessMembers.{In, Pairs, in_all, in_from_Contains, from_append, from_map, from_filter, pairs_weaker, pairs_map, pairs_filter, pairs_join, pairs_from_AllPairs, cases_pairs}
-use Rattle.fab_model.proofs.FaultlessFacts.{AreSides, UseOthers, node_of_stated, node_claim, link_claim, switch_nodes, adapter_links, slice_get_in}
-use Rattle.fab_model.proofs.FaultlessSound.{AreSound}
-use Rattle.fab_model.proofs.MakesItselfLists.{slice_get_some}
-use Rattle.fab_model.proofs.MakesItselfKinds.{IsAnAdapterEnd, StatesARow, states_a_row}
-use Rattle.fab_model.proofs.MakesItselfStates.{channel_is_stated, switch_end_is_stated, adapter_end_is_stated}
-use Rattle.fab_model.proofs.MakesItselfNodes.{IsSwitchHead, IsAdapterHead, IsAHead, head_states, switch_has_head, own_guids_differ, own_ports_differ}
+use Rattle.fab_model.proofs.Lists.Members.{In, Pairs, in_all, in_from_Contains, from_append, from_map, from_filter, pairs_weaker, pairs_map, pairs_filter, pairs_join, pairs_from_AllPairs, cases_pairs}
+use Rattle.fab_model.proofs.Faultless.Facts.{AreSides, UseOthers, node_of_stated, node_claim, link_claim, switch_nodes, adapter_links, slice_get_in}
+use Rattle.fab_model.proofs.Faultless.Sound.{AreSound}
+use Rattle.fab_model.proofs.Lists.Found.{slice_get_some}
+use Rattle.fab_model.proofs.MakesItself.Kinds.{IsAnAdapterEnd, StatesARow, states_a_row}
+use Rattle.fab_model.proofs.MakesItself.States.{channel_is_stated, switch_end_is_stated, adapter_end_is_stated}
+use Rattle.fab_model.proofs.MakesItself.Nodes.{IsSwitchHead, IsAdapterHead, IsAHead, head_states, switch_has_head, own_guids_differ, own_ports_differ}
 
 -- ---- nodes
 

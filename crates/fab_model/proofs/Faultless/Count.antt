@@ -3,7 +3,7 @@ use Rattle.std.proofs.Common.{ℕ, ◌+◌, ◌*◌, ◌<◌, ◌≤◌, inl, in
 use Rattle.fab_model.specs.declared.rows.ChannelRow.{ChannelRow}
 use Rattle.fab_model.specs.Faults.{switch_limit, port_limit}
 use Rattle.fab_model.specs.WellFormed.{GoesBefore}
-use Rattle.fab_model.proofs.FaultlessMembers.{In, Pairs, pairs_weaker}
+use Rattle.fab_model.proofs.Lists.Members.{In, Pairs, pairs_weaker}
 
 -- rising numbers between two bounds
 rising_count : {X : Type 0} (f : X → ℕ) (xs : List X) (low high : ℕ) → low ≤ high → Pairs (λ x y. f x < f y) xs → ((x : X) → In x xs → low < f x) → ((x : X) → In x xs → f x ≤ high) → low + length xs ≤ high

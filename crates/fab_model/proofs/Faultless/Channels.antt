@@ -8,11 +8,11 @@ use Rattle.fab_model.specs.Records.{Records, Stated, stated, is_switch}
 use Rattle.fab_model.specs.Topology.{switch_id, reversed}
 use Rattle.fab_model.specs.WellFormed.{GoesBefore, IsPort}
 use Rattle.fab_model.specs.Built.{by_tail, channel_row, channel_rows, switch_rows, switch_number}
-use Rattle.fab_model.proofs.FaultlessMembers.{In, Pairs, pairs_weaker, pairs_map, pairs_filter, in_map, from_map, in_filter, from_filter}
-use Rattle.fab_model.proofs.FaultlessOrder.{from_in_order, in_in_order, rise_in_order, Goes, AreApart}
-use Rattle.fab_model.proofs.FaultlessFacts.{AreSides, UseOthers}
-use Rattle.fab_model.proofs.FaultlessSound.{AreSound}
-use Rattle.fab_model.proofs.FaultlessNodes.{switch_number_within, same_switch, ports_at}
+use Rattle.fab_model.proofs.Lists.Members.{In, Pairs, pairs_weaker, pairs_map, pairs_filter, in_map, from_map, in_filter, from_filter}
+use Rattle.fab_model.proofs.Lists.InOrder.{from_in_order, in_in_order, rise_in_order, Goes, AreApart}
+use Rattle.fab_model.proofs.Faultless.Facts.{AreSides, UseOthers}
+use Rattle.fab_model.proofs.Faultless.Sound.{AreSound}
+use Rattle.fab_model.proofs.Faultless.Nodes.{switch_number_within, same_switch, ports_at}
 
 -- ---- the order of channels
 

@@ -11,10 +11,10 @@ use Rattle.fab_model.specs.InOrder.{in_order}
 use Rattle.fab_model.specs.Records.{Records, is_switch, is_adapter}
 use Rattle.fab_model.specs.Topology.{lid_id}
 use Rattle.fab_model.specs.Built.{by_guid, switch_rows, adapter_rows, switch_number, adapter_number}
-use Rattle.fab_model.proofs.FaultlessMembers.{In, Pairs, pairs_weaker, pairs_map, pairs_filter, in_map, from_map, in_filter, from_filter}
-use Rattle.fab_model.proofs.FaultlessOrder.{from_in_order, in_in_order, rise_in_order, Goes, AreApart}
-use Rattle.fab_model.proofs.FaultlessPlaces.{slice_get_number, number_within, same_number}
-use Rattle.fab_model.proofs.FaultlessSound.{AreSound}
+use Rattle.fab_model.proofs.Lists.Members.{In, Pairs, pairs_weaker, pairs_map, pairs_filter, in_map, from_map, in_filter, from_filter}
+use Rattle.fab_model.proofs.Lists.InOrder.{from_in_order, in_in_order, rise_in_order, Goes, AreApart}
+use Rattle.fab_model.proofs.Faultless.Places.{slice_get_number, number_within, same_number}
+use Rattle.fab_model.proofs.Faultless.Sound.{AreSound}
 use Rattle.fab_model.proofs.Order.{length-in_order}
 
 pub less_along : (a b c : ℕ) → nat_lt a b ≡ true → nat_lt b c ≡ true → nat_lt a c ≡ true

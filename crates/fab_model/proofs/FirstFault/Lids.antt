@@ -11,8 +11,8 @@ use Rattle.fab_model.specs.declared.raw.RawLink.{RawLink}
 use Rattle.fab_model.specs.Records.{Records, Stated, stated, is_switch, is_adapter}
 use Rattle.fab_model.specs.Faults.{Claim, least, claims, claim_lines, repeats_lid}
 use Rattle.fab_model.specs.FirstFault.{lesser, is_later}
-use Rattle.fab_model.proofs.FirstFaultLines.{claims_of_node, claims_of_link, least_append, least_push, lesser-assoc}
-use Rattle.fab_model.proofs.FirstFaultStated.{no_link, stated_more, or-false}
+use Rattle.fab_model.proofs.FirstFault.Lines.{claims_of_node, claims_of_link, least_append, least_push, lesser-assoc}
+use Rattle.fab_model.proofs.FirstFault.Stated.{no_link, stated_more, or-false}
 
 -- the least lines of the switches and of the links under adapters that state a LID
 abbrev pub of_switches : ℕ → List RawNode → Option ℕ

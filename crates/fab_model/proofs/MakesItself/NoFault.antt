@@ -14,9 +14,9 @@ use Rattle.fab_model.specs.declared.fault.FabricFault.TheVariants as fault
 use Rattle.fab_model.specs.Records.{Records, Stated, stated, is_switch, is_adapter, same_kind}
 use Rattle.fab_model.specs.Faults as row
 use Rattle.fab_model.specs.Faults.{Claim, claims, first_fault, first_of, when, at_least_line, node_lines, link_lines, claim_lines, is_far_end, is_other_side}
-use Rattle.fab_model.proofs.FaultlessMembers.{In, cases_pairs, list_any_from_in}
-use Rattle.fab_model.proofs.FaultlessFacts.{AreSides, UseOthers, from_stated}
-use Rattle.fab_model.proofs.FaultlessSound.{AreSound, AreFew}
+use Rattle.fab_model.proofs.Lists.Members.{In, cases_pairs, list_any_from_in}
+use Rattle.fab_model.proofs.Faultless.Facts.{AreSides, UseOthers, from_stated}
+use Rattle.fab_model.proofs.Faultless.Sound.{AreSound, AreFew}
 
 -- ---- the first of the rows
 

@@ -10,7 +10,7 @@ use Rattle.fab_model.specs.declared.fault.FabricFault.TheVariants as fault
 use Rattle.fab_model.specs.Records.{Records, Stated, stated, is_switch}
 use Rattle.fab_model.specs.Faults as row
 use Rattle.fab_model.specs.Faults.{Claim, claims, first_fault, first_of, when, at_least_line, node_lines, link_lines, claim_lines}
-use Rattle.fab_model.proofs.FaultlessMembers.{In, in_map, in_filter}
+use Rattle.fab_model.proofs.Lists.Members.{In, in_map, in_filter}
 
 -- each row is false
 pub record NoRow (records : Records) : Type 0 where

@@ -12,7 +12,7 @@ use Rattle.fab_model.specs.declared.rows.AdapterRow.{AdapterRow}
 use Rattle.fab_model.specs.InOrder.{in_order}
 use Rattle.fab_model.specs.Records.{Records, is_switch, is_adapter}
 use Rattle.fab_model.specs.Built as build
-use Rattle.fab_model.proofs.Sorted.{map-in_order}
+use Rattle.fab_model.proofs.Lists.Sorted.{map-in_order}
 use Rattle.fab_model.proofs.Order.{length-in_order}
 use Rattle.fab_model.specs.Topology.{lid_id}
 

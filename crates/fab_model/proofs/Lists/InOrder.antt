@@ -2,7 +2,7 @@
 use Rattle.std.proofs.Common.{◌≡◌, ◌⊎◌, inl, inr, Bool, true, false, cond, List, [], ◌∷◌, refl, sym, subst}
 use Rattle.std.proofs.lemmas.Bool.{cases_Bool, cond-true, cond-false, both_ways}
 use Rattle.fab_model.specs.InOrder.{insert_in_order, in_order}
-use Rattle.fab_model.proofs.FaultlessMembers.{In, Pairs}
+use Rattle.fab_model.proofs.Lists.Members.{In, Pairs}
 
 -- ---- elements
 

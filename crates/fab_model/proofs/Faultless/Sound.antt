@@ -8,9 +8,9 @@ use Rattle.fab_model.specs.declared.raw.RawNode.{RawNode}
 use Rattle.fab_model.specs.Records.{Records, Stated, stated, is_switch, is_adapter, same_kind}
 use Rattle.fab_model.specs.Faults.{Claim, claims, first_fault, switch_limit, lid_limit, port_limit, greatest_lid, is_other_side, is_far_end}
 use Rattle.fab_model.specs.WellFormed.{IsPort, IsUnicast}
-use Rattle.fab_model.proofs.FaultlessMembers.{In, Pairs, from_list_any}
-use Rattle.fab_model.proofs.FaultlessNone.{NoRow, no_row}
-use Rattle.fab_model.proofs.FaultlessFacts.{HaveLines, AreSides, UseOthers, guids_differ, ports_differ, lids_differ, node_of_stated}
+use Rattle.fab_model.proofs.Lists.Members.{In, Pairs, from_list_any}
+use Rattle.fab_model.proofs.Faultless.NoFault.{NoRow, no_row}
+use Rattle.fab_model.proofs.Faultless.Facts.{HaveLines, AreSides, UseOthers, guids_differ, ports_differ, lids_differ, node_of_stated}
 
 pub record AreSound (records : Records) : Type 0 where
   pub some_switch : (node : RawNode) × In node records.nodes × (is_switch node.kind ≡ true)

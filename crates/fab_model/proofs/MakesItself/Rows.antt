@@ -11,17 +11,17 @@ use Rattle.fab_model.specs.Topology.{Topology, guid_of, reversed, switch_id, lid
 use Rattle.fab_model.specs.WellFormed.{IsWellFormed, GoesBefore}
 use Rattle.fab_model.specs.Built.{switch_rows, adapter_rows, channel_rows, terminal_rows, channel_row, terminal_row, switch_number, adapter_number}
 use Rattle.fab_model.specs.Written.{records_of, adapter_guid_of}
-use Rattle.fab_model.proofs.FaultlessMembers.{In, Pairs, in_all, in_from_Contains, pairs_weaker, pairs_from_AllPairs}
-use Rattle.fab_model.proofs.FaultlessPlaces.{slice_get_number}
-use Rattle.fab_model.proofs.FaultlessFacts.{slice_get_in, same_place}
-use Rattle.fab_model.proofs.FaultlessNodes.{from_switch_rows, in_switch_rows, switch_rows_rise, from_adapter_rows, in_adapter_rows, adapter_rows_rise}
-use Rattle.fab_model.proofs.FaultlessChannels.{IsJoining, from_channel_rows, in_channel_rows, channels_rise, same_row}
-use Rattle.fab_model.proofs.FaultlessTerminals.{from_terminal_rows, in_terminal_rows, terminals_rise}
-use Rattle.fab_model.proofs.MakesItselfLists.{rising_same, slice_get_some}
-use Rattle.fab_model.proofs.MakesItselfKinds.{IsChannelLink, IsAdapterEnd, IsAChannel, states_a_row, guid_at, adapter_guid_at}
-use Rattle.fab_model.proofs.MakesItselfStates.{channel_is_stated, adapter_end_is_stated}
-use Rattle.fab_model.proofs.MakesItselfNodes.{switch_has_head, adapter_has_head}
-use Rattle.fab_model.proofs.MakesItselfSound.{own_are_sound, switch_of_head, adapter_of_head, end_of_link}
+use Rattle.fab_model.proofs.Lists.Members.{In, Pairs, in_all, in_from_Contains, pairs_weaker, pairs_from_AllPairs}
+use Rattle.fab_model.proofs.Faultless.Places.{slice_get_number}
+use Rattle.fab_model.proofs.Faultless.Facts.{slice_get_in, same_place}
+use Rattle.fab_model.proofs.Faultless.Nodes.{from_switch_rows, in_switch_rows, switch_rows_rise, from_adapter_rows, in_adapter_rows, adapter_rows_rise}
+use Rattle.fab_model.proofs.Faultless.Channels.{IsJoining, from_channel_rows, in_channel_rows, channels_rise, same_row}
+use Rattle.fab_model.proofs.Faultless.Terminals.{from_terminal_rows, in_terminal_rows, terminals_rise}
+use Rattle.fab_model.proofs.Lists.Found.{rising_same, slice_get_some}
+use Rattle.fab_model.proofs.MakesItself.Kinds.{IsChannelLink, IsAdapterEnd, IsAChannel, states_a_row, guid_at, adapter_guid_at}
+use Rattle.fab_model.proofs.MakesItself.States.{channel_is_stated, adapter_end_is_stated}
+use Rattle.fab_model.proofs.MakesItself.Nodes.{switch_has_head, adapter_has_head}
+use Rattle.fab_model.proofs.MakesItself.Sound.{own_are_sound, switch_of_head, adapter_of_head, end_of_link}
 
 -- ---- nodes
 

@@ -7,8 +7,8 @@ use Rattle.fab_model.specs.declared.raw.RawNode.{RawNode}
 use Rattle.fab_model.specs.declared.raw.RawLink.{RawLink}
 use Rattle.fab_model.specs.Records.{Records, AreRecords, Stated, stated, is_switch, is_adapter}
 use Rattle.fab_model.specs.Faults.{Claim, claims}
-use Rattle.fab_model.proofs.FaultlessMembers.{In, Pairs, pairs_from_AllPairs, pairs_weaker, pairs_map, pairs_filter, pairs_filter_map, pairs_join, from_filter_map, from_map, from_filter, in_all, list_any_false}
-use Rattle.fab_model.proofs.FaultlessNone.{NoRow}
+use Rattle.fab_model.proofs.Lists.Members.{In, Pairs, pairs_from_AllPairs, pairs_weaker, pairs_map, pairs_filter, pairs_filter_map, pairs_join, from_filter_map, from_map, from_filter, in_all, list_any_false}
+use Rattle.fab_model.proofs.Faultless.NoFault.{NoRow}
 
 -- lines rise, and none states both a node and a link
 pub record HaveLines (records : Records) : Type 0 where

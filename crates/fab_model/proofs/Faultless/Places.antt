@@ -5,7 +5,7 @@ use Rattle.std.specs.List.{position_or_len}
 use Rattle.std.proofs.lemmas.Bool.{eq-eqb, ne_eqb, cond-true, cond-false}
 use Rattle.std.proofs.lemmas.List.Folds.{find_at}
 use Rattle.std.proofs.lemmas.Option.{slice_get_within, same_Some}
-use Rattle.fab_model.proofs.FaultlessMembers.{In, Pairs}
+use Rattle.fab_model.proofs.Lists.Members.{In, Pairs}
 
 abbrev pub number_of : {X : Type 0} → (X → ℕ) → ℕ → List X → ℕ
 number_of key value xs = position_or_len (λ x. key x == value) xs

@@ -6,13 +6,13 @@ use Rattle.fab_model.specs.declared.rows.TerminalRow.{TerminalRow}
 use Rattle.fab_model.specs.Records.{Records, Stated, stated, is_switch, is_adapter}
 use Rattle.fab_model.specs.WellFormed.{IsPort, UseOtherPorts, AreOtherPorts}
 use Rattle.fab_model.specs.Built.{by_lid, terminal_row, terminal_rows, switch_rows, adapter_rows, switch_number, adapter_number}
-use Rattle.fab_model.proofs.FaultlessMembers.{In, Pairs, pairs_weaker, pairs_map, pairs_filter, in_map, in_filter, from_map, from_filter, cases_pairs}
-use Rattle.fab_model.proofs.FaultlessOrder.{from_in_order, in_in_order, pairs_in_order, rise_in_order, Goes, AreApart}
-use Rattle.fab_model.proofs.FaultlessFacts.{AreSides, UseOthers, adapter_links}
-use Rattle.fab_model.proofs.FaultlessSound.{AreSound}
-use Rattle.fab_model.proofs.FaultlessNodes.{less_along, apart_of_numbers, switch_number_within, same_switch, ports_at, adapter_number_within, same_adapter, adapter_ports_at}
-use Rattle.fab_model.proofs.FaultlessLids.{link_lids_differ}
-use Rattle.fab_model.proofs.FaultlessChannels.{IsJoining}
+use Rattle.fab_model.proofs.Lists.Members.{In, Pairs, pairs_weaker, pairs_map, pairs_filter, in_map, in_filter, from_map, from_filter, cases_pairs}
+use Rattle.fab_model.proofs.Lists.InOrder.{from_in_order, in_in_order, pairs_in_order, rise_in_order, Goes, AreApart}
+use Rattle.fab_model.proofs.Faultless.Facts.{AreSides, UseOthers, adapter_links}
+use Rattle.fab_model.proofs.Faultless.Sound.{AreSound}
+use Rattle.fab_model.proofs.Faultless.Nodes.{less_along, apart_of_numbers, switch_number_within, same_switch, ports_at, adapter_number_within, same_adapter, adapter_ports_at}
+use Rattle.fab_model.proofs.Faultless.Lids.{link_lids_differ}
+use Rattle.fab_model.proofs.Faultless.Channels.{IsJoining}
 
 pub record IsEnding (records : Records) (one : Stated) : Type 0 where
   pub within : In one (stated records)

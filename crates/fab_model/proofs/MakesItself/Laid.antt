@@ -7,8 +7,8 @@ use Rattle.fab_model.specs.declared.raw.RawNode.{RawNode}
 use Rattle.fab_model.specs.declared.raw.RawLink.{RawLink}
 use Rattle.fab_model.specs.Records.{Stated, stated}
 use Rattle.fab_model.specs.Written.{Block, laid_links, laid_out}
-use Rattle.fab_model.proofs.FaultlessMembers.{In, Pairs, in_map, from_map, in_left, in_right, from_append, pairs_join, pairs_map, pairs_weaker}
-use Rattle.fab_model.proofs.FaultlessFacts.{UseOthers}
+use Rattle.fab_model.proofs.Lists.Members.{In, Pairs, in_map, from_map, in_left, in_right, from_append, pairs_join, pairs_map, pairs_weaker}
+use Rattle.fab_model.proofs.Faultless.Facts.{UseOthers}
 
 abbrev pub head_on : ℕ → Block → RawNode
 head_on line block = record block.head { line = line }

@@ -10,7 +10,7 @@ use Rattle.fab_model.specs.declared.raw.RawNode.{RawNode}
 use Rattle.fab_model.specs.declared.raw.RawLink.{RawLink}
 use Rattle.fab_model.specs.Records.{Records, AreRecords, stated}
 use Rattle.fab_model.specs.Faults.{least, link_lines, repeats_guid, repeats_port}
-use Rattle.fab_model.proofs.FirstFaultLines.{Rises, rises_from_pairs, link_lines_found}
+use Rattle.fab_model.proofs.FirstFault.Lines.{Rises, rises_from_pairs, link_lines_found}
 
 -- a number below n is not above it
 none-above : {X : Type 0} (number : X → ℕ) (passes : X → Bool) (n : ℕ) (xs : List X) → AllByRecursion (λ y. n < number y) xs → list_any (λ y. nat_lt (number y) n && passes y) xs ≡ false
