@@ -16,10 +16,6 @@ abbrev pub behind : List Cable → Result (List Cable) FailedFault → Result (L
 behind front (Ok cables) = Ok (front ++ cables)
 behind front (Err fault) = Err fault
 
-pub behind_none : (wanted : Result (List Cable) FailedFault) → behind [] wanted ≡ wanted
-behind_none (Ok cables) = refl
-behind_none (Err fault) = refl
-
 behind_one : (front : List Cable) (cable : Cable) (wanted : Result (List Cable) FailedFault) → behind front (with_cable cable wanted) ≡ behind (front ++ cable ∷ []) wanted
 behind_one front cable (Ok cables) = ap (λ (all : List Cable). Ok all) (sym (append_assoc front (cable ∷ []) cables))
 behind_one front cable (Err fault) = refl

@@ -1,5 +1,5 @@
 -- The list of failed cables. A line is empty, begins with `#`, or has a switch's GUID in hexadecimal digits and a
--- decimal port, with blanks between them and perhaps around them.
+-- decimal port, with blanks between them and perhaps around them. The first line of another form is a fault.
 use Rattle.std.specs.Prelude.{ℕ, ◌+◌, ◌-◌, ◌^◌, Bool, true, false, List, [], ◌∷◌, Option, None, Some, Result, Ok, Err, if◌then◌else◌}
 use Rattle.std.specs.Str.Lines.{lines}
 use Rattle.fab_text.specs.Fields.{is_passed_over, words_of, hex, dec_up_to}
@@ -7,23 +7,26 @@ use Rattle.fab_model.specs.declared.rows.Cable.{Cable}
 use Rattle.fab_repair.specs.declared.fault.FailedFault.{FailedFault}
 use Rattle.fab_repair.specs.declared.fault.FailedFault.TheVariants.{BadLine, Memory}
 
+-- a cable, where both its GUID and its port could be read
 abbrev pub cable_of : Option ℕ → Option ℕ → Option Cable
 cable_of (Some guid) (Some port) = Some (record { guid = guid; port = port })
 cable_of _ _ = None
 
-abbrev pub cable_of_fields : List (List ℕ) → Option Cable
-cable_of_fields (guid ∷ port ∷ []) = cable_of (hex 16 guid) (dec_up_to (2 ^ 32 - 1) port)
-cable_of_fields _ = None
+-- the cable that the words of a line name, where they are two
+abbrev pub cable_of_words : List (List ℕ) → Option Cable
+cable_of_words (guid ∷ port ∷ []) = cable_of (hex 16 guid) (dec_up_to (2 ^ 32 - 1) port)
+cable_of_words _ = None
 
 -- the cable that a line names
 abbrev pub cable_in : List ℕ → Option Cable
-cable_in line = cable_of_fields (words_of line)
+cable_in line = cable_of_words (words_of line)
 
 -- a cable in front of others
 abbrev pub with_cable : Cable → Result (List Cable) FailedFault → Result (List Cable) FailedFault
 with_cable cable (Ok cables) = Ok (cable ∷ cables)
 with_cable cable (Err fault) = Err fault
 
+-- what a line gives that isn't passed over: its cable in front of those of the later lines, or the fault of this line
 abbrev pub unless_bad : ℕ → Option Cable → Result (List Cable) FailedFault → Result (List Cable) FailedFault
 unless_bad line None others = Err (BadLine line)
 unless_bad line (Some cable) others = with_cable cable others
