@@ -1,7 +1,10 @@
 pub mod Cables
+pub mod Channels
+pub mod FlatMaps
 pub mod Examples
 pub mod Finds
 pub mod Lids
+pub mod LidsInUse
 pub mod Faultless
 pub mod FaultlessChannels
 pub mod FaultlessCount

@@ -1,6 +1,7 @@
-ghost use Rattle.std.specs.Prelude.{◌≡◌, ◌+◌, ◌<◌, ◌≤◌, ◌^◌, ◌==◌, length, slice_get, position, Some, None, IfOk, option_map};
+ghost use Rattle.std.specs.Prelude.{◌≡◌, ◌+◌, ◌<◌, ◌≤◌, ◌^◌, ◌==◌, length, slice_get, position, Some, None, IfOk, map, option_map};
 ghost use Rattle.fab_text.specs.Readings.{Gives};
 ghost use Rattle.fab_model.specs.Topology.{Topology, switch_id, channel_id, terminal_id, lid_id, switch_of, channel_at, terminal_at, IsReverse, first_channel, is_source, lids_of, place_of};
+ghost use Rattle.fab_model.specs.declared.rows.Lid.{Lid};
 ghost use Rattle.fab_model.specs.WellFormed.{IsFabric};
 ghost use Rattle.fab_model.specs.Written.{MakesItself};
 ghost use Rattle.fab_model.specs.Built as build;
@@ -75,8 +76,11 @@ impl Fabric {
         )
     }
 
-    /// The fabric of rows that are one.
-    pub(crate) fn of_rows(
+    /// The fabric of rows that are one: for a generator, which makes rows. Switches and adapters stand by
+    /// ascending GUID, channels by tail and out port, each with its reverse, and terminals by ascending LID.
+    /// The error is want of memory. It takes 512 cells a switch and one for each number of 16 bits, and the time
+    /// to fill them: O(switches log channels + channels + terminals + 65,536).
+    pub fn of_rows(
         alloc: Global,
         switches: Vec<SwitchRow>,
         adapters: Vec<AdapterRow>,
@@ -226,6 +230,14 @@ impl Fabric {
         ensures kept { IsFabric self.now }
     {
         (self.switches.len() + self.terminals.len()) as u32
+    }
+
+    /// The LIDs in use, ascending: one for each switch and each terminal. Constant time.
+    pub fn lids_in_use(&self) -> &[Lid]
+        ensures lids { map (λ (lid : Lid). lid.0) result.now ≡ lids_of self.now }
+        ensures kept { IsFabric self.now }
+    {
+        &self.indexes.lids_in_use
     }
 
     /// Whether a switch has a terminal.
