@@ -1,10 +1,13 @@
 -- The reader after a row.
-use Rattle.std.proofs.Common.{◌≡◌, ℕ, ◌<◌, Bool, true, false, List, [], ◌∷◌, ◌++◌, length, length-set, get_or, Some, None, Option, sym, ◌∙◌, subst}
-use Rattle.std.specs.Prelude.{Vec, if◌then◌else◌}
+use Rattle.std.proofs.Common.{◌≡◌, ℕ, ◌<◌, Bool, true, false, List, [], ◌∷◌, ◌++◌, length, length-set, get_or, map, Some, None, Option, sym, ◌∙◌, ap, subst}
+use Rattle.std.specs.Prelude.{Vec, slice_get, if◌then◌else◌}
 use Rattle.std.specs.Vec.{with_item}
 use Rattle.std.specs.declared.alloc.Global.{Global}
+use Rattle.fab_model.specs.declared.rows.Lid.{Lid}
 use Rattle.fab_model.specs.declared.rows.SwitchId.{SwitchId}
 use Rattle.fab_model.specs.Topology.{Topology, lids_of, switch_id}
+use Rattle.fab_model.proofs.LidsInUse.{lid_there}
+use Rattle.fab_tables.proofs.Ascending.{lids_are}
 use Rattle.fab_tables.specs.Entries.{index_of}
 use Rattle.fab_tables.specs.declared.plan.Plan.{Plan}
 use Rattle.fab_tables.specs.declared.lanes.PairRow.{PairRow}
@@ -16,6 +19,7 @@ use Rattle.fab_dump.specs.Given.Given.{Port, Level, Map, PairMap, Number}
 use Rattle.fab_dump.specs.Lines.{Form, State, after_map_row, has_pairs}
 use Rattle.fab_dump.specs.Standing.{Stands, MarkRows, IsWithin}
 use Rattle.fab_dump.proofs.After.{IsNoHead, after_row}
+use Rattle.fab_dump.proofs.LongRows.{index_at, same_there}
 use Rattle.fab_dump.proofs.Marks.{row_mark_set, same_lid}
 
 module _ (f : Form) (s : State) (r : PlanReader) (stands : Stands r.fabric.now f s r) where
@@ -53,6 +57,20 @@ module _ (f : Form) (s : State) (r : PlanReader) (stands : Stands r.fabric.now f
   after_level switch lid level place plan block found low is =
       kept (Level switch.0 lid level) plan (Levels switch) (with_item r.lids_read place true) block tt is (within (Levels switch) block) (length-set r.lids_read.items place true ∙ stands.fits.row_marks)
       (row_mark_set lids (λ l. Level switch.0 l None) (Level switch.0 lid level) lid s.given r.lids_read.items place (same_lid switch.0 lid) found low (open_rows (Levels switch) block))
+
+  pub after_port_at : (in_use : List Lid) (d : Lid) (switch : SwitchId) (lid : ℕ) (port : ℕ) (place : ℕ) (plan : Plan) → map (λ (l : Lid). l.0) in_use ≡ lids → place < length in_use → slice_get lids place ≡ Some lid →
+      r.block ≡ Table (Some switch) → place < length r.lids_read.items → plan ≡ plan_with r.plan (Port switch.0 (get_or in_use place d).0 port) →
+      Stands r.fabric.now f (record { open_block = Table (Some (switch_id switch.0)); given = s.given ++ Port switch.0 lid port ∷ [] }) (record r { plan = plan; lids_read = with_item r.lids_read place true })
+  after_port_at in_use d switch lid port place plan are within got block low is =
+      after_port switch lid port place plan block (index_at lids place lid (lids_are r.fabric.now stands.fits.fabric).ascending got) low
+      (is ∙ ap (λ (l : ℕ). plan_with r.plan (Port switch.0 l port)) (same_there lids place lid (get_or in_use place d).0 got (lid_there in_use lids are place d within)))
+
+  pub after_level_at : (in_use : List Lid) (d : Lid) (switch : SwitchId) (lid : ℕ) (level : Option ℕ) (place : ℕ) (plan : Plan) → map (λ (l : Lid). l.0) in_use ≡ lids → place < length in_use → slice_get lids place ≡ Some lid →
+      r.block ≡ Levels switch → place < length r.lids_read.items → plan ≡ plan_with r.plan (Level switch.0 (get_or in_use place d).0 level) →
+      Stands r.fabric.now f (record { open_block = Levels (switch_id switch.0); given = s.given ++ Level switch.0 lid level ∷ [] }) (record r { plan = plan; lids_read = with_item r.lids_read place true })
+  after_level_at in_use d switch lid level place plan are within got block low is =
+      after_level switch lid level place plan block (index_at lids place lid (lids_are r.fabric.now stands.fits.fabric).ascending got) low
+      (is ∙ ap (λ (l : ℕ). plan_with r.plan (Level switch.0 l level)) (same_there lids place lid (get_or in_use place d).0 got (lid_there in_use lids are place d within)))
 
   map_block : (switch : SwitchId) (lanes : List ℕ) (plan : Plan) (pairs : Bool) → switch.0 < switches → plan ≡ plan_with r.plan (Map switch.0 lanes) →
       Stands r.fabric.now f (record { open_block = if pairs then Pairs (switch_id switch.0) else Nothing; given = s.given ++ Map switch.0 lanes ∷ [] })

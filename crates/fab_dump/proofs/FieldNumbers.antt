@@ -1,95 +1,34 @@
--- The number that a whole field is, by the number at its front.
-use Rattle.std.proofs.Common.{◌≡◌, ℕ, ◌+◌, ◌^◌, ◌<◌, ◌≤◌, ◌-◌, ◌*◌, suc, lit<, IfSome, Bool, true, false, cond, List, [], ◌∷◌, length, drop, Some, None, Option, not, ◌&&◌, ◌⊎◌, inl, inr, nat_lt, nat_eq, nat_le, refl, ◌∙◌, ap, arith}
-use Rattle.std.specs.Prelude.{take_while, ◌==◌, if◌then◌else◌, codes}
+-- The number that a field is.
+use Rattle.std.proofs.Common.{◌≡◌, ℕ, ◌+◌, ◌^◌, ◌<◌, ◌≤◌, ◌-◌, ◌*◌, suc, lit<, IfSome, Bool, true, false, cond, List, [], ◌∷◌, length, drop, get_or, Some, None, Option, ◌&&◌, ◌⊎◌, inl, inr, nat_lt, nat_le, refl, sym, ◌∙◌, ap, arith}
+use Rattle.std.specs.Prelude.{◌==◌, if◌then◌else◌, codes}
 use Rattle.std.specs.List.{list_all, starts_with}
 use Rattle.std.specs.Char.{digit_value, is_digit}
 use Rattle.std.proofs.Math.Nat.{mul-le-mul_right, pow-succ', pow-le-pow_right}
 use Rattle.std.proofs.lemmas.List.{length-drop}
-use Rattle.std.proofs.lemmas.Bool.{and_parts, cond_both, leb-true, cases_lt, and_right}
+use Rattle.std.proofs.lemmas.Bool.{and_from, and_left, and_parts, and_right, cond_both, leb-true, le-leb, lt-ltb}
 use Rattle.std.proofs.lemmas.Bool.Decides.{nat_tests}
-use Rattle.std.proofs.lemmas.List.Sums.{take_while-cons}
-use Rattle.fab_text.specs.Digits.{digits_at_front, number_after, number_spelled}
+use Rattle.fab_text.specs.Digits.{number_after, number_spelled}
 use Rattle.fab_text.specs.Fields.{dec, dec_up_to, hex}
-use Rattle.fab_text.specs.Fronts.{dec_at, hex_at}
+use Rattle.fab_text.proofs.Numbers.{passes_u64}
+use Rattle.fab_dump.specs.FieldsLeft.{spelled_in}
 
--- either all pass, or the longest run at the front is shorter
-abbrev RunsThrough : (ℕ → Bool) → List ℕ → List ℕ → Bool → Type 0
-RunsThrough p xs run all = ((run ≡ xs) × (all ≡ true)) ⊎ ((length run < length xs) × (all ≡ false))
+abbrev are_digits : ℕ → List ℕ → Bool
+are_digits base field = list_all (λ byte. is_digit byte base) field
 
-run_step : (p : ℕ → Bool) (b : Bool) (x : ℕ) (xs run : List ℕ) (all : Bool) → RunsThrough p xs run all → RunsThrough p (x ∷ xs) (cond b (x ∷ run) []) (b && all)
-run_step p true x xs run all (inl h) = inl (ap (λ ys. x ∷ ys) h.0, h.1)
-run_step p true x xs run all (inr h) = inr (omega (arith, h.0), h.1)
-run_step p false x xs run all h = inr (omega arith, refl)
+-- ---- digits, one after the other
 
-runs_through : (p : ℕ → Bool) (xs : List ℕ) → RunsThrough p xs (take_while p xs) (list_all p xs)
-runs_through p [] = inl (refl, refl)
-runs_through p (x ∷ xs) = rw take_while-cons (run_step p (p x) x xs (take_while p xs) (list_all p xs) (runs_through p xs))
+module _ (base number : ℕ) (field : List ℕ) where
+  answers : (b : Bool) → (are_digits base field && nat_lt (number_spelled base field) (2 ^ 64)) ≡ b → spelled_in base field ≡ (if b then Some (number_spelled base field) else None)
+  answers b e = ap (λ v. if v then Some (number_spelled base field) else None) e
 
--- the number at a field's front, where it is the whole field and not too great
-abbrev pub whole_number : ℕ → List ℕ → Option (ℕ × ℕ) → Option ℕ
-whole_number greatest field None = None
-whole_number greatest field (Some found) = if (found.1 == length field) && nat_le found.0 greatest then Some found.0 else None
-
-abbrev in_u64 : ℕ → Bool
-in_u64 n = nat_lt n (2 ^ 64)
-
-number_whole : (greatest n size : ℕ) (field : List ℕ) → greatest < 2 ^ 64 → length field ≡ size →
-    whole_number greatest field (cond (not (nat_eq size 0) && in_u64 n) (Some (n, 0 + size)) None)
-    ≡ cond (nat_lt 0 (length field) && nat_le (length field) (length field) && true && nat_le n greatest) (Some n) None
-number_whole greatest n size field h e = grind (arith, nat_tests)
-
-number_short : (greatest n m size : ℕ) (field : List ℕ) → size < length field →
-    whole_number greatest field (cond (not (nat_eq size 0) && in_u64 n) (Some (n, 0 + size)) None)
-    ≡ cond (nat_lt 0 (length field) && nat_le (length field) (length field) && false && nat_le m greatest) (Some m) None
-number_short greatest n m size field h = grind (arith, nat_tests)
-
--- the decimal number that a field is
-pub dec_read : (greatest : ℕ) (field : List ℕ) → greatest < 2 ^ 64 → whole_number greatest field (dec_at field 0) ≡ dec_up_to greatest field
-dec_read greatest field h = go (digits_at_front 10 field) (list_all (λ byte. is_digit byte 10) field) (runs_through (λ byte. is_digit byte 10) field)
-  where
-    go : (run : List ℕ) (all : Bool) → RunsThrough (λ byte. is_digit byte 10) field run all →
-        whole_number greatest field (cond (not (nat_eq (length run) 0) && in_u64 (number_spelled 10 run)) (Some (number_spelled 10 run, 0 + length run)) None)
-        ≡ cond (nat_lt 0 (length field) && nat_le (length field) (length field) && all && nat_le (number_spelled 10 field) greatest) (Some (number_spelled 10 field)) None
-    go run all (inl e) = rw (e.0, e.1) (number_whole greatest (number_spelled 10 field) (length field) field h refl)
-    go run all (inr e) = rw e.1 (number_short greatest (number_spelled 10 run) (number_spelled 10 field) (length run) field e.0)
-
--- the hexadecimal number at the front of what follows `0x`, where it is the whole of it
-abbrev pub whole_hex : List ℕ → Option (ℕ × ℕ) → Option ℕ
-whole_hex field None = None
-whole_hex field (Some found) = if found.1 == length field then Some found.0 else None
-
-hex_whole : (digits n size : ℕ) (field : List ℕ) → digits < 17 → length field ≤ 2 + digits → size + 2 ≡ length field →
-    whole_hex field (cond (not (nat_eq size 0) && nat_lt size 17) (Some (n, 2 + size)) None)
-    ≡ cond (true && nat_lt 2 (length field) && nat_le (length field) (2 + digits) && true) (Some n) None
-hex_whole digits n size field h k e = grind (arith, nat_tests)
-
-hex_short : (digits n m size : ℕ) (field : List ℕ) → size + 2 < length field →
-    whole_hex field (cond (not (nat_eq size 0) && nat_lt size 17) (Some (n, 2 + size)) None)
-    ≡ cond (true && nat_lt 2 (length field) && nat_le (length field) (2 + digits) && false) (Some m) None
-hex_short digits n m size field h = grind (arith, nat_tests)
-
--- without a digit there is no number on either side
-hex_none : (digits n m size : ℕ) (all : Bool) (field : List ℕ) → length field ≤ 2 → size ≡ 0 →
-    whole_hex field (cond (not (nat_eq size 0) && nat_lt size 17) (Some (n, 2 + size)) None)
-    ≡ cond (true && nat_lt 2 (length field) && nat_le (length field) (2 + digits) && all) (Some m) None
-hex_none digits n m size all field h e = grind (arith, nat_tests)
-
--- the number that a field of `0x` and hexadecimal digits is
-pub hex_read : (digits : ℕ) (field : List ℕ) → digits < 17 → starts_with (λ x y. x == y) field (codes "0x") ≡ true → length field ≤ 2 + digits →
-    whole_hex field (hex_at field 2) ≡ hex digits field
-hex_read digits field h begun short = rw begun (go (digits_at_front 16 (drop 2 field)) (list_all (λ byte. is_digit byte 16) (drop 2 field)) (runs_through (λ byte. is_digit byte 16) (drop 2 field)))
-  where
-    left : length (drop 2 field) ≡ length field - 2
-    left = length-drop 2 field
-
-    go : (run : List ℕ) (all : Bool) → RunsThrough (λ byte. is_digit byte 16) (drop 2 field) run all →
-        whole_hex field (cond (not (nat_eq (length run) 0) && nat_lt (length run) 17) (Some (number_spelled 16 run, 2 + length run)) None)
-        ≡ cond (true && nat_lt 2 (length field) && nat_le (length field) (2 + digits) && all) (Some (number_spelled 16 (drop 2 field))) None
-    go run all (inl e) = elim (cases_lt 2 (length field)) [
-      | inl some ↦ rw (e.0, e.1) (hex_whole digits (number_spelled 16 (drop 2 field)) (length (drop 2 field)) field h short (omega (arith, left)))
-      | inr none ↦ hex_none digits (number_spelled 16 run) (number_spelled 16 (drop 2 field)) (length run) all field none (omega (arith, left, ap length e.0))
-    ]
-    go run all (inr e) = rw e.1 (hex_short digits (number_spelled 16 run) (number_spelled 16 (drop 2 field)) (length run) field (omega (arith, left, e.0)))
+  -- the next byte is no digit, or with it the number passes a u64
+  pub digit_refused : 0 < base → (left : List ℕ) → 0 < length left → number_after base number left ≡ number_spelled base field → are_digits base left ≡ are_digits base field →
+      (is_digit (get_or left 0 0) base ≡ false) ⊎ (2 ^ 64 ≤ number * base + digit_value (get_or left 0 0)) → None ≡ spelled_in base field
+  digit_refused some [] low told all why = absurd (omega arith)
+  digit_refused some (digit ∷ rest) low told all (inl none) =
+      sym (answers false (and_left (are_digits base field) (nat_lt (number_spelled base field) (2 ^ 64)) (sym all ∙ and_left (is_digit digit base) (are_digits base rest) none)))
+  digit_refused some (digit ∷ rest) low told all (inr over) =
+      sym (answers false (and_right (are_digits base field) (nat_lt (number_spelled base field) (2 ^ 64)) (ap (λ n. nat_lt n (2 ^ 64)) (sym told) ∙ passes_u64 base (number * base + digit_value digit) rest some over)))
 
 -- hexadecimal digits stay below a power of 16
 hex_digit : (b : ℕ) → is_digit b 16 ≡ true → digit_value b < 16
@@ -125,6 +64,33 @@ hex_fits_if digits field b true e = cond_both (b && nat_lt 2 (length field) && n
 -- so many hexadecimal digits stay below a power of 16
 pub hex_fits : (digits : ℕ) (field : List ℕ) → IfSome (hex digits field) (λ n. n < 16 ^ digits)
 hex_fits digits field = hex_fits_if digits field _ _ refl
+
+-- a field of `0x` and some hexadecimal digits, but not too many
+pub hex_read : (digits : ℕ) (field : List ℕ) → digits < 17 → starts_with (λ x y. x == y) field (codes "0x") ≡ true → 2 < length field → length field ≤ 2 + digits → spelled_in 16 (drop 2 field) ≡ hex digits field
+hex_read digits field h begun some short = go (are_digits 16 (drop 2 field)) refl
+  where
+    n : ℕ
+    n = number_spelled 16 (drop 2 field)
+
+    more : (k m : ℕ) → k ≤ m → 16 ^ k ≤ 16 ^ m
+    more k m h = pow-le-pow_right (lit< tt) h
+
+    front : (starts_with (λ x y. x == y) field (codes "0x") && nat_lt 2 (length field) && nat_le (length field) (2 + digits)) ≡ true
+    front = and_from (starts_with (λ x y. x == y) field (codes "0x") && nat_lt 2 (length field)) (nat_le (length field) (2 + digits))
+        (and_from (starts_with (λ x y. x == y) field (codes "0x")) (nat_lt 2 (length field)) begun (lt-ltb 2 (length field) some)) (le-leb (length field) (2 + digits) short)
+
+    go : (all : Bool) → are_digits 16 (drop 2 field) ≡ all → spelled_in 16 (drop 2 field) ≡ hex digits field
+    go true e =
+        let below : n < (0 + 1) * 16 ^ length (drop 2 field) = hex_below 0 (drop 2 field) e in
+        let most : 16 ^ length (drop 2 field) ≤ 16 ^ 16 = more (length (drop 2 field)) 16 (omega (arith, length-drop 2 field)) in
+        let fits : n < 2 ^ 64 = omega (arith, below, most) in
+        ap (λ b. if b then Some n else None) (and_from (are_digits 16 (drop 2 field)) (nat_lt n (2 ^ 64)) e (lt-ltb n (2 ^ 64) fits))
+        ∙ sym (ap (λ b. if b then Some n else None)
+        (and_from (starts_with (λ x y. x == y) field (codes "0x") && nat_lt 2 (length field) && nat_le (length field) (2 + digits)) (are_digits 16 (drop 2 field)) front e))
+    go false e =
+        ap (λ b. if b then Some n else None) (and_left (are_digits 16 (drop 2 field)) (nat_lt n (2 ^ 64)) e)
+        ∙ sym (ap (λ b. if b then Some n else None)
+        (and_right (starts_with (λ x y. x == y) field (codes "0x") && nat_lt 2 (length field) && nat_le (length field) (2 + digits)) (are_digits 16 (drop 2 field)) e))
 
 -- a number that is read is not too great
 pub not_too_great : (digits greatest : ℕ) (field : List ℕ) → IfSome (dec digits greatest field) (λ n. n ≤ greatest)

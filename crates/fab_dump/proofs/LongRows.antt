@@ -1,6 +1,6 @@
 -- Rows of up to 64 LIDs.
 use Rattle.std.proofs.Common.{◌≡◌, ℕ, zero, suc, ◌+◌, ◌-◌, ◌%◌, ◌<◌, ◌≤◌, true, false, List, [], ◌∷◌, ◌++◌, length, take, drop, get_or, map, min, Some, None, Option, inl, inr, refl, sym, ◌∙◌, ap, subst, arith}
-use Rattle.std.specs.Prelude.{slice_get, option_map, if◌then◌else◌}
+use Rattle.std.specs.Prelude.{slice_get, if◌then◌else◌}
 use Rattle.std.specs.List.{zip}
 use Rattle.std.specs.List.Sorted.{IsStrictlyIncreasing}
 use Rattle.std.proofs.lemmas.Bool.{cases_order, cases_lt, eq-eqb, ne_eqb}
@@ -8,12 +8,10 @@ use Rattle.std.proofs.lemmas.List.{get_or-drop, get_or_default, append_assoc, ap
 use Rattle.std.proofs.lemmas.List.Kept.{AllPairs-from_increasing}
 use Rattle.std.proofs.lemmas.Option.{slice_get_within, get_or_from_slice_get, slice_get-get_or}
 use Rattle.fab_text.specs.Fields.{hex, all_read}
-use Rattle.fab_model.specs.declared.rows.Lid.{Lid}
-use Rattle.fab_model.specs.Topology.{Topology, lids_of, lid_id}
+use Rattle.fab_model.specs.Topology.{Topology, lids_of}
 use Rattle.fab_model.specs.WellFormed.{IsFabric}
 use Rattle.fab_tables.specs.Entries.{index_of}
 use Rattle.fab_tables.proofs.Cells.{index_found, index_there}
-use Rattle.fab_tables.proofs.Ascending.{lids_are, lid_read}
 use Rattle.fab_dump.specs.declared.fault.PlanFault.{PlanFault}
 use Rattle.fab_dump.specs.declared.form.Block.{Block}
 use Rattle.fab_dump.specs.declared.reader.PlanReader.{PlanReader}
@@ -66,9 +64,6 @@ index_at lids i lid up got = go (index_of lid lids) refl
           | inr (inl below) ↦ absurd (omega (arith, AllPairs-from_increasing lids up j i 0 below within, there, here 0))
           | inr (inr above) ↦ absurd (omega (arith, AllPairs-from_increasing lids up i j 0 above at.0, there, here 0))
         ]
-
-pub lid_place : (t : Topology) (i : ℕ) (lid : Lid) → IsFabric t → Some lid ≡ option_map lid_id (slice_get (lids_of t) i) → index_of lid.0 (lids_of t) ≡ Some i
-lid_place t i lid fabric e = index_at (lids_of t) i lid.0 (lids_are t fabric).ascending (lid_read (slice_get (lids_of t) i) lid (sym e))
 
 -- one LID and its value more
 pub zip_more : {X : Type 0} (g : ℕ × X → Given) (lids : List ℕ) (values : List X) (i : ℕ) (lid : ℕ) (value : X) → i < length lids → i < length values →
@@ -150,8 +145,8 @@ pub all_said : (t : Topology) (f : Form) (s : State) (r : PlanReader) (b : Block
     Stands t f (record { open_block = b; given = s.given ++ take i all }) r → Stands t f (record { open_block = b; given = s.given ++ all }) r
 all_said t f s r b all i whole h = subst (λ (g : List Given). Stands t f (record { open_block = b; given = s.given ++ g }) r) (take_all i all whole) h
 
-pub same_lid_there : (lids : List ℕ) (place lid : ℕ) (found : Lid) → slice_get lids place ≡ Some lid → Some found ≡ option_map lid_id (slice_get lids place) → found.0 ≡ lid
-same_lid_there lids place lid found got e = unsome found.0 lid (sym (lid_read (slice_get lids place) found (sym e)) ∙ got)
+pub same_there : (lids : List ℕ) (place lid found : ℕ) → slice_get lids place ≡ Some lid → slice_get lids place ≡ Some found → found ≡ lid
+same_there lids place lid found a b = unsome found lid (sym b ∙ a)
   where
     unsome : (a b : ℕ) → Some a ≡ Some b → a ≡ b
     unsome a b e = cc

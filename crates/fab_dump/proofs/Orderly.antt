@@ -210,7 +210,7 @@ module _ (t : Topology) (f : Form) (n : ℕ) (s : State) (h : IsOrderly t f s) w
   -- rows of a block, of which one statement leaves it orderly
   module _ {A : Type 0} (P : A → Type 0) (b : Block) (say : ℕ → A → Given) (is : s.open_block ≡ b)
       (one : (given : List Given) (lid : ℕ) (value : A) → Contains (lids_of t) lid → P value → IsOrderly t f (record { open_block = b; given = given }) →
-        IsOrderly t f (record { open_block = b; given = given ++ say lid value ∷ [] })) where
+      IsOrderly t f (record { open_block = b; given = given ++ say lid value ∷ [] })) where
     keeps_short_row : (bad : PlanFault) (unused : Next) (row : Option (ℕ × A)) → Keeps t f unused → IfSome row (λ r. P r.1) → Keeps t f (short_row t bad unused n s b say row)
     keeps_short_row bad unused None k low = tt
     keeps_short_row bad unused (Some row) k low = cond_both (is_in_use t row.0) (adds (TwiceRow n) s b (say row.0 row.1 ∷ [])) unused (Keeps t f)
@@ -239,14 +239,14 @@ module _ (t : Topology) (f : Form) (n : ℕ) (s : State) (h : IsOrderly t f s) w
   keeps_row line (Table None) is = keeps_strange (table_row (fields line))
   keeps_row line (Table (Some switch)) is =
       let one : (given : List Given) (lid port : ℕ) → Contains (lids_of t) lid → port < 256 → IsOrderly t f (record { open_block = Table (Some switch); given = given }) →
-          IsOrderly t f (record { open_block = Table (Some switch); given = given ++ Port switch.0 lid port ∷ [] }) = λ given lid port there low k. orderly_port t f given switch lid port low k in
+      IsOrderly t f (record { open_block = Table (Some switch); given = given ++ Port switch.0 lid port ∷ [] }) = λ given lid port there low k. orderly_port t f given switch lid port low k in
       cond_both (says_one_lid f.version) (short_table_row t n s switch.0 (table_row (fields line))) (long_table_row n s switch.0 (long_row (lids_of t) (dec 3 255) (fields line))) (Keeps t f)
       (λ e. keeps_short_row (λ k. k < 256) (Table (Some switch)) (Port switch.0) is one (BadRow n) (Goes s) (table_row (fields line)) h (port_row_is (fields line)))
       (λ e. keeps_values_row (λ k. k < 256) (Table (Some switch)) (Port switch.0) is one (BadRow n) (long_row (lids_of t) (dec 3 255) (fields line)) (long_row_is (λ k. k < 256) (lids_of t) (dec 3 255) (fields line) port_is_low))
   keeps_row line (Levels switch) is =
       let P : Option ℕ → Type 0 = λ level. IfSome level (λ k. k < 16) in
       let one : (given : List Given) (lid : ℕ) (level : Option ℕ) → Contains (lids_of t) lid → IfSome level (λ k. k < 16) → IsOrderly t f (record { open_block = Levels switch; given = given }) →
-          IsOrderly t f (record { open_block = Levels switch; given = given ++ Level switch.0 lid level ∷ [] }) = λ given lid level there low k. orderly_level t f given switch lid level there low k in
+      IsOrderly t f (record { open_block = Levels switch; given = given ++ Level switch.0 lid level ∷ [] }) = λ given lid level there low k. orderly_level t f given switch lid level there low k in
       cond_both (says_one_lid f.version) (short_level_row t n s switch.0 (level_row (fields line))) (long_level_row n s switch.0 (long_row (lids_of t) level_field (fields line))) (Keeps t f)
       (λ e. keeps_short_row P (Levels switch) (Level switch.0) is one (BadLevelRow n) (Fails (BadLevelRow n)) (level_row (fields line)) tt (level_row_is (fields line)))
       (λ e. keeps_values_row P (Levels switch) (Level switch.0) is one (BadLevelRow n) (long_row (lids_of t) level_field (fields line)) (long_row_is P (lids_of t) level_field (fields line) level_is_low))

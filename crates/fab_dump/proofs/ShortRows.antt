@@ -22,6 +22,6 @@ row_in_use t bad unused n s b say lid value place row e found =
 pub has_place : (lids : List ℕ) (lid place : ℕ) → index_of lid lids ≡ Some place → Contains lids lid
 has_place lids lid place found = let at = index_found lid lids place found in (place, at.0, get_or_from_slice_get lids place lid lid at.1)
 
-pub lanes_have_place : (t : Topology) (o : Option LaneTables) (lid place : ℕ) → index_of lid (lids_of t) ≡ Some place → IfSome o (LanesAreOver t) → IfSome o (λ l. Contains l.in_use lid)
-lanes_have_place t None lid place found h = tt
-lanes_have_place t (Some l) lid place found h = subst (λ lids. Contains lids lid) (sym h.in_use) (has_place (lids_of t) lid place found)
+pub lanes_contain : (t : Topology) (o : Option LaneTables) (lid : ℕ) → Contains (lids_of t) lid → IfSome o (LanesAreOver t) → IfSome o (λ l. Contains l.in_use lid)
+lanes_contain t None lid there h = tt
+lanes_contain t (Some l) lid there h = subst (λ lids. Contains lids lid) (sym h.in_use) there

@@ -1,15 +1,18 @@
 -- The loops that write rows.
 use Rattle.std.proofs.Common.{◌≡◌, ◌<◌, ◌≤◌, ◌+◌, ◌-◌, ◌*◌, ℕ, zero, suc, List, [], ◌∷◌, ◌++◌, Some, length, get_or, take, drop, map, min, refl, sym, ap, ◌∙◌, arith, add-one, add-zero, append_assoc, append-nil, length-drop, get_or-take, get_or-drop}
-use Rattle.std.specs.Prelude.{slice_get}
+use Rattle.std.specs.Prelude.{codes, slice_get}
 use Rattle.std.specs.Int.{div_ceil}
 use Rattle.std.specs.List.{concat, flat_map, enumerate_from, range_with_len, join_with_byte}
-use Rattle.std.proofs.lemmas.List.{flat_map_more, take_more, take_min, take_all, map-id}
+use Rattle.std.proofs.lemmas.List.{drop-map, flat_map_more, get_or-map, length-map, take-map, take_more, take_min, take_all, map-id}
 use Rattle.std.proofs.lemmas.List.Concat.{flat_map-append}
 use Rattle.std.proofs.lemmas.List.FromFn.{map-range_with_len_more, length-enumerate_from}
 use Rattle.fab_model.specs.Topology.{Topology, lids_of}
 use Rattle.fab_model.specs.WellFormed.{IsFabric}
+use Rattle.fab_model.specs.declared.rows.Lid.{Lid}
+use Rattle.fab_model.proofs.LidsInUse.{as_many}
 use Rattle.fab_model.proofs.Order.{lids_are_counted}
-use Rattle.fab_dump.specs.Writing.{hex4, two, lines_text, row_of, row_text, numbered_row, block_rows, lanes_text}
+use Rattle.fab_dump.specs.BlockValues.{numbers_of}
+use Rattle.fab_dump.specs.Writing.{hex4, two, lids_text, lines_text, row_of, row_text, numbered_row, block_rows, lanes_text}
 
 -- ---- lines
 
@@ -53,34 +56,32 @@ lines_of_number lines n before old now e f =
 pub spaced : (value old between now : List ℕ) → between ≡ old ++ 32 ∷ [] → now ≡ between ++ value → now ≡ old ++ 32 ∷ value
 spaced value old between now e f = f ∙ ap (λ (bytes : List ℕ). bytes ++ value) e ∙ append_assoc old (32 ∷ []) value
 
-module _ (value : ℕ → List ℕ) (lids : List ℕ) (first : ℕ) where
-  pub lid_added : (place : ℕ) (before old between now : List ℕ) → first ≤ place → place < length lids → old ≡ before ++ flat_map (λ (lid : ℕ). 32 ∷ value lid) (take (place - first) (drop first lids))
-      → between ≡ old ++ 32 ∷ [] → now ≡ between ++ value (get_or lids place 0)
-      → now ≡ before ++ flat_map (λ (lid : ℕ). 32 ∷ value lid) (take (place + 1 - first) (drop first lids))
-  lid_added place before old between now low high e f g =
-      let here : first + (place - first) ≡ place = omega arith in
-      let next : place - first + 1 ≡ place + 1 - first = omega arith in
-      let within : place - first < length (drop first lids) = omega (arith, length-drop first lids) in
-      let one : now ≡ old ++ 32 ∷ value (get_or lids place 0) = spaced (value (get_or lids place 0)) old between now f g in
-      let item : get_or (drop first lids) (place - first) 0 ≡ get_or lids place 0 = get_or-drop first lids (place - first) 0 ∙ ap (λ (n : ℕ). get_or lids n 0) here in
-      let more : take (place - first + 1) (drop first lids) ≡ take (place - first) (drop first lids) ++ get_or lids place 0 ∷ [] =
-      take_more (drop first lids) (place - first) 0 within ∙ ap (λ (n : ℕ). take (place - first) (drop first lids) ++ n ∷ []) item in
-      one ∙ ap (λ (bytes : List ℕ). bytes ++ 32 ∷ value (get_or lids place 0)) e
-      ∙ flat_map_more (λ (lid : ℕ). 32 ∷ value lid) before (take (place - first) (drop first lids)) (get_or lids place 0)
-      ∙ ap (λ (some : List ℕ). before ++ flat_map (λ (lid : ℕ). 32 ∷ value lid) some) (sym more ∙ ap (λ (n : ℕ). take n (drop first lids)) next)
+spaced_numbers : (value : ℕ → List ℕ) (lids : List Lid) → flat_map (λ (lid : Lid). 32 ∷ value lid.0) lids ≡ flat_map (λ (lid : ℕ). 32 ∷ value lid) (numbers_of lids)
+spaced_numbers value [] = refl
+spaced_numbers value (lid ∷ lids) = ap (λ (bytes : List ℕ). (32 ∷ value lid.0) ++ bytes) (spaced_numbers value lids)
 
-  pub row_done : (number place : ℕ) (before old now : List ℕ) → first ≡ number * 64 → first < length lids → place ≡ min (length lids) (first + 64) → old ≡ before ++ hex4 (get_or lids first 0)
-      → now ≡ old ++ flat_map (λ (lid : ℕ). 32 ∷ value lid) (take (place - first) (drop first lids)) → now ≡ before ++ row_text value (row_of lids number)
-  unfolding row_text
-  row_done number place before old now start low e f g =
-      let size : place - first ≡ min 64 (length (drop first lids)) = omega (arith, length-drop first lids) in
-      let all : take (place - first) (drop first lids) ≡ take 64 (drop first lids) = ap (λ (n : ℕ). take n (drop first lids)) size ∙ take_min 64 (drop first lids) in
-      let front : get_or (take 64 (drop first lids)) 0 0 ≡ get_or lids first 0 = get_or-take 64 (drop first lids) 0 0 (omega arith) ∙ get_or-drop first lids 0 0 ∙ ap (λ (n : ℕ). get_or lids n 0) (add-zero first) in
-      let row : now ≡ before ++ (hex4 (get_or (take 64 (drop first lids)) 0 0) ++ flat_map (λ (lid : ℕ). 32 ∷ value lid) (take 64 (drop first lids))) =
-      added before (hex4 (get_or lids first 0)) (flat_map (λ (lid : ℕ). 32 ∷ value lid) (take (place - first) (drop first lids))) old now f g
-      ∙ ap (λ (some : List ℕ). before ++ (hex4 (get_or lids first 0) ++ flat_map (λ (lid : ℕ). 32 ∷ value lid) some)) all
-      ∙ ap (λ (n : ℕ). before ++ (hex4 n ++ flat_map (λ (lid : ℕ). 32 ∷ value lid) (take 64 (drop first lids)))) (sym front) in
-      row ∙ ap (λ (n : ℕ). before ++ row_text value (take 64 (drop n lids))) start
+-- the number of the LID at a place
+number_at : (lids : List Lid) (k : ℕ) (d : Lid) → k < length lids → (get_or lids k d).0 ≡ get_or (numbers_of lids) k 0
+number_at lids k d h = sym (get_or-map (λ (lid : Lid). lid.0) lids k d 0 h)
+
+-- all LIDs of a row, behind its first
+pub row_done : (value : ℕ → List ℕ) (lids : List Lid) (d : Lid) (before old now : List ℕ) (n : ℕ) → 0 < length lids → length lids ≤ n → old ≡ before ++ hex4 (get_or lids 0 d).0
+    → now ≡ old ++ flat_map (λ (lid : Lid). 32 ∷ value lid.0) (take n lids) → now ≡ before ++ row_text value (numbers_of lids)
+unfolding row_text
+row_done value lids d before old now n some h e f =
+    added before (hex4 (get_or lids 0 d).0) (flat_map (λ (lid : Lid). 32 ∷ value lid.0) (take n lids)) old now e f
+    ∙ ap (λ (k : ℕ). before ++ (hex4 k ++ flat_map (λ (lid : Lid). 32 ∷ value lid.0) (take n lids))) (number_at lids 0 d some)
+    ∙ ap (λ (some : List Lid). before ++ (hex4 (get_or (numbers_of lids) 0 0) ++ flat_map (λ (lid : Lid). 32 ∷ value lid.0) some)) (take_all n lids h)
+    ∙ ap (λ (bytes : List ℕ). before ++ (hex4 (get_or (numbers_of lids) 0 0) ++ bytes)) (spaced_numbers value lids)
+
+-- the LIDs of a row, by its number
+pub row_lids_are : (lids : List Lid) (numbers : List ℕ) (first past i : ℕ) → numbers_of lids ≡ numbers → first ≡ i * 64 → past ≡ min (length lids) (first + 64) → i * 64 < length lids →
+    numbers_of (take (past - first) (drop first lids)) ≡ row_of numbers i
+row_lids_are lids numbers first past i are start end low =
+    let many : length lids ≡ length numbers = as_many lids numbers are in
+    let size : past - first ≡ min 64 (length (drop first numbers)) = omega (arith, start, end, low, many, length-drop first numbers) in
+    sym (take-map (λ (lid : Lid). lid.0) (past - first) (drop first lids)) ∙ ap (take (past - first)) (sym (drop-map (λ (lid : Lid). lid.0) first lids) ∙ ap (drop first) are)
+    ∙ ap (λ (n : ℕ). take n (drop first numbers)) size ∙ take_min 64 (drop first numbers) ∙ ap (λ (n : ℕ). take 64 (drop n numbers)) start
 
 -- ---- lanes
 
@@ -145,6 +146,17 @@ module _ (before a b c d e t1 t2 t3 t4 : List ℕ) (first : t1 ≡ before ++ a) 
       let all : t4 ≡ (((before ++ a) ++ b) ++ c) ++ d = fourth ∙ ap (λ (t : List ℕ). t ++ d) (third ∙ ap (λ (t : List ℕ). t ++ c) (second ∙ ap (λ (t : List ℕ). t ++ b) first)) in
       ap (λ (t : List ℕ). t ++ e) all ∙ simp (append_assoc, append-nil)
 
+-- the least and the greatest LID in use
+pub lids_done : (lids : List Lid) (d e : Lid) (before t1 t2 t3 t4 : List ℕ) → 0 < length lids → t1 ≡ before ++ codes "Unicast lids [" → t2 ≡ t1 ++ hex4 (get_or lids 0 d).0 → t3 ≡ t2 ++ codes "-"
+    → t4 ≡ t3 ++ hex4 (get_or lids (length lids - 1) e).0 → t4 ++ codes "] of switch " ≡ before ++ lids_text (numbers_of lids)
+unfolding lids_text
+lids_done lids d e before t1 t2 t3 t4 some first second third fourth =
+    let last : (get_or lids (length lids - 1) e).0 ≡ get_or (numbers_of lids) (length (numbers_of lids) - 1) 0 =
+    number_at lids (length lids - 1) e (omega (arith, some)) ∙ ap (λ (n : ℕ). get_or (numbers_of lids) (n - 1) 0) (sym (length-map lids (λ (lid : Lid). lid.0))) in
+    five_pieces before (codes "Unicast lids [") (hex4 (get_or lids 0 d).0) (codes "-") (hex4 (get_or lids (length lids - 1) e).0) (codes "] of switch ") t1 t2 t3 t4 first second third fourth
+    ∙ ap (λ (n : ℕ). before ++ concat (codes "Unicast lids [" ∷ hex4 n ∷ codes "-" ∷ hex4 (get_or lids (length lids - 1) e).0 ∷ codes "] of switch " ∷ [])) (number_at lids 0 d some)
+    ∙ ap (λ (n : ℕ). before ++ concat (codes "Unicast lids [" ∷ hex4 (get_or (numbers_of lids) 0 0) ∷ codes "-" ∷ hex4 n ∷ codes "] of switch " ∷ [])) last
+
 pub two_lines : (line other before t1 t2 t3 now : List ℕ) → t1 ≡ before ++ line → t2 ≡ t1 ++ 10 ∷ [] → t3 ≡ t2 ++ other → now ≡ t3 ++ 10 ∷ [] → now ≡ before ++ lines_text (line ∷ other ∷ [])
 two_lines line other before t1 t2 t3 now e f g h =
     lines_added (line ∷ []) (other ∷ []) (line ∷ other ∷ []) before t2 now (one_line line before t1 t2 e f) (one_line other t2 t3 now g h) refl
@@ -153,6 +165,10 @@ two_lines line other before t1 t2 t3 now e f g h =
 
 pub few_lids : (t : Topology) → IsFabric t → length (lids_of t) ≤ 16384
 few_lids t is = omega (arith, lids_are_counted t, is.rows.lid_count)
+
+-- a fabric with a switch has a LID in use
+pub some_lid : (t : Topology) (s : ℕ) → s < length t.switches → 0 < length (lids_of t)
+some_lid t s low = omega (arith, lids_are_counted t, low)
 
 -- the last row
 pub rows_done : (t : Topology) (value : ℕ → List ℕ) (before now : List ℕ) (n : ℕ) → n ≡ div_ceil (length (lids_of t)) 64 → now ≡ before ++ lines_text (map (numbered_row t value) (range_with_len 0 n))

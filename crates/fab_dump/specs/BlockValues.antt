@@ -1,5 +1,6 @@
 -- What the rows of a block tell of each LID.
-use Rattle.std.specs.Prelude.{ℕ, ◌+◌, ◌<◌, ◌≤◌, ◌==◌, List, All, take, drop, length, Option, Some, None, if◌then◌else◌}
+use Rattle.std.specs.Prelude.{ℕ, ◌+◌, ◌<◌, ◌≤◌, ◌==◌, List, All, map, take, drop, length, Option, Some, None, if◌then◌else◌}
+use Rattle.fab_model.specs.declared.rows.Lid.{Lid}
 use Rattle.fab_tables.specs.declared.lanes.PairRow.{PairRow}
 use Rattle.fab_tables.specs.Entries.{entry}
 use Rattle.fab_tables.specs.LaneTables.{AreLaneTables, level}
@@ -31,3 +32,7 @@ pub record BeginAt (pairs : List PairRow) (s place : ℕ) : Type 0 where
 pub record AreUpTo (pairs : List PairRow) (s place : ℕ) : Type 0 where
   pub until : All (λ (p : PairRow). p.switch.0 < s + 1) (take place pairs)
   pub since : All (λ (p : PairRow). s ≤ p.switch.0) (drop place pairs)
+
+-- the numbers of LIDs
+abbrev pub numbers_of : List Lid → List ℕ
+numbers_of lids = map (λ (lid : Lid). lid.0) lids

@@ -1,7 +1,13 @@
-ghost use Rattle.std.specs.Prelude.{◌≡◌, ◌∷◌, [], MatchOption, ◌<◌, ◌≤◌, ◌^◌, IfSome};
+//! The fields of a line, one after another, and the numbers that single fields are.
+//!
+//! Fields are parted by spaces and tabs (`fab_text`'s `specs/Fields.antt`). Each byte of a line is passed once
+//! to find its field and once or twice to read a number of it; no memory is taken.
+ghost use Rattle.std.specs.Prelude.{◌≡◌, ◌∷◌, [], MatchOption, ◌<◌, ◌≤◌, ◌^◌, ◌*◌, ◌+◌, ◌⊎◌, IfNone, IfSome, true, false};
+ghost use Rattle.std.specs.Char.{digit_value, is_digit};
+ghost use Rattle.fab_dump.specs.FieldsLeft.{spelled_in};
 ghost use Rattle.fab_text.specs.Fields.{fields, dec, dec_up_to, hex};
 
-use fab_text::{read_dec, read_hex, word};
+use fab_text::word;
 use std::marker::Model;
 
 /// The fields of a line that are still to be read.
@@ -56,6 +62,42 @@ impl<'t> Fields<'t> {
     }
 }
 
+/// A number with one digit more behind it, if a byte is a digit of the base and the number stays within a `u64`.
+fn with_digit(base: u8, number: u64, byte: u8) -> Option<u64>
+    ensures some { IfSome result (λ next. (is_digit byte base ≡ true) × (next ≡ number * base + digit_value byte) × (next < 2 ^ 64)) }
+    ensures none { IfNone result ((is_digit byte base ≡ false) ⊎ (2 ^ 64 ≤ number * base + digit_value byte)) }
+{
+    let value = match byte {
+        b'0'..=b'9' => byte - 48,
+        b'A'..=b'Z' => byte - 55,
+        b'a'..=b'z' => byte - 87,
+        _ => 36,
+    };
+    if value >= base {
+        return None;
+    }
+    number
+        .checked_mul(u64::from(base))?
+        .checked_add(u64::from(value))
+}
+
+/// The number that digits of a base spell, if a field has no other bytes and the number is within a `u64`.
+fn spelled_in(base: u8, field: &[u8]) -> Option<u64>
+    requires { 0 < base }
+    ensures { result ≡ spelled_in base field.now }
+{
+    let mut number = 0;
+    let mut rest = field;
+    while let [byte, after @ ..] = rest {
+        match with_digit(base, number, *byte) {
+            Some(next) => number = next,
+            None => return None,
+        }
+        rest = after;
+    }
+    Some(number)
+}
+
 /// The decimal number that a field is, of at most so many digits and at most this value.
 pub(crate) fn dec(digits: usize, greatest: u64, field: &[u8]) -> Option<u64>
     ensures number { result ≡ dec digits greatest field.now }
@@ -72,8 +114,11 @@ pub(crate) fn dec_up_to(greatest: u64, field: &[u8]) -> Option<u64>
     ensures number { result ≡ dec_up_to greatest field.now }
     ensures below { IfSome result (λ n. n ≤ greatest) }
 {
-    match read_dec(field, 0) {
-        Some((number, end)) if end == field.len() && number <= greatest => Some(number),
+    if field.is_empty() {
+        return None;
+    }
+    match spelled_in(10, field) {
+        Some(number) if number <= greatest => Some(number),
         _ => None,
     }
 }
@@ -84,11 +129,8 @@ pub(crate) fn hex(digits: usize, field: &[u8]) -> Option<u64>
     ensures number { result ≡ hex digits field.now }
     ensures below { IfSome result (λ n. n < 16 ^ digits) }
 {
-    if !field.starts_with(b"0x") || field.len() > 2 + digits {
+    if !field.starts_with(b"0x") || field.len() < 3 || field.len() > 2 + digits {
         return None;
     }
-    match read_hex(field, 2) {
-        Some((number, end)) if end == field.len() => Some(number),
-        _ => None,
-    }
+    spelled_in(16, &field[2..])
 }

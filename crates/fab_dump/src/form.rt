@@ -1,3 +1,4 @@
+//! Where the reader of a plan text stands: the form of the text, and the block that is open.
 ghost use Rattle.std.specs.Prelude.{◌≡◌};
 ghost use Rattle.fab_dump.specs.Lines.{has_pairs, is_dump, says_one_lid};
 

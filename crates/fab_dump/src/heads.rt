@@ -1,3 +1,7 @@
+//! The heads of blocks: each opens its block, once for a switch.
+//!
+//! A head costs the look-up of its switch by GUID. That of a table block or a levels block also clears a mark
+//! for each LID in use.
 ghost use Rattle.std.specs.Prelude.{◌≡◌, ◌<◌, ℕ, length, is_some, if◌then◌else◌, option_and_then, None, Some, [], ◌∷◌};
 ghost use Rattle.fab_model.specs.Topology.{switch_of};
 ghost use Rattle.fab_dump.specs.declared.fault.PlanFault.TheVariants.{BadRow, TwiceBlock, BadLevelRow, BadLaneRow};
@@ -38,11 +42,7 @@ impl<'f> PlanReader<'f> {
     }
 
     /// Reads the head of a table block.
-    pub(crate) fn table_head(
-        &mut self,
-        line: u32,
-        bytes: &[u8],
-    ) -> Result<(), PlanFault>
+    pub(crate) fn table_head(&mut self, line: u32, bytes: &[u8]) -> Result<(), PlanFault>
         requires fits { ReaderFits self.old }
         ensures { ReadsAs self.old self.new result (λ t f s. table_head t f line s (table_guid bytes.now)) }
     {
@@ -76,11 +76,7 @@ impl<'f> PlanReader<'f> {
     }
 
     /// Reads the head of a levels block.
-    pub(crate) fn levels_head(
-        &mut self,
-        line: u32,
-        bytes: &[u8],
-    ) -> Result<(), PlanFault>
+    pub(crate) fn levels_head(&mut self, line: u32, bytes: &[u8]) -> Result<(), PlanFault>
         requires fits { ReaderFits self.old }
         ensures { ReadsAs self.old self.new result (λ t f s. if is_some f.count then opens (BadLevelRow line) (TwiceBlock line) s Levels LevelBlock (a_source t (option_and_then (switch_of t) (head_guid levels_head bytes.now)))
             else Fails (BadRow line)) }
@@ -113,11 +109,7 @@ impl<'f> PlanReader<'f> {
     }
 
     /// Reads the head of a lane map.
-    pub(crate) fn map_head(
-        &mut self,
-        line: u32,
-        bytes: &[u8],
-    ) -> Result<(), PlanFault>
+    pub(crate) fn map_head(&mut self, line: u32, bytes: &[u8]) -> Result<(), PlanFault>
         requires fits { ReaderFits self.old }
         ensures { ReadsAs self.old self.new result (λ t f s. if is_some f.count then opens (BadLaneRow line) (TwiceBlock line) s MapRow MapBlock (option_and_then (switch_of t) (head_guid map_head bytes.now))
             else Fails (BadRow line)) }

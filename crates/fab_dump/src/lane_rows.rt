@@ -1,3 +1,7 @@
+//! The rows of lane maps, of pairs of ports and of the certificate.
+//!
+//! A row costs its bytes, and a number row also the look-ups of its switch by GUID and of its channel by port.
+//! The map of a pair moves those of later pairs.
 ghost use Rattle.std.specs.Prelude.{◌≡◌, ◌<◌, ℕ, length, not, IfSome, ◌==◌};
 ghost use Rattle.fab_text.specs.Fields.{fields};
 ghost use Rattle.fab_tables.specs.LaneTables.{number};
@@ -49,12 +53,7 @@ impl<'f> PlanReader<'f> {
     }
 
     /// Reads the map of a pair of ports of a switch.
-    fn pair_row(
-        &mut self,
-        line: u32,
-        switch: SwitchId,
-        bytes: &[u8],
-    ) -> Result<(), PlanFault>
+    fn pair_row(&mut self, line: u32, switch: SwitchId, bytes: &[u8]) -> Result<(), PlanFault>
         requires fits { ReaderFits self.old }
         requires block { self.old.block ≡ Block.Pairs switch }
         ensures { ReadsAs self.old self.new result (λ t _ s. adds_pair line s switch.0 (pair_row t switch.0 (fields bytes.now))) }
@@ -71,11 +70,7 @@ impl<'f> PlanReader<'f> {
     }
 
     /// Reads a line that begins as the map of a pair of ports does.
-    pub(crate) fn pair_line(
-        &mut self,
-        line: u32,
-        bytes: &[u8],
-    ) -> Result<(), PlanFault>
+    pub(crate) fn pair_line(&mut self, line: u32, bytes: &[u8]) -> Result<(), PlanFault>
         requires fits { ReaderFits self.old }
         ensures { ReadsAs self.old self.new result (λ t _ s. pair_in t line s s.open_block bytes.now) }
     {
@@ -86,11 +81,7 @@ impl<'f> PlanReader<'f> {
     }
 
     /// Reads a row of the certificate.
-    pub(crate) fn number_row(
-        &mut self,
-        line: u32,
-        bytes: &[u8],
-    ) -> Result<(), PlanFault>
+    pub(crate) fn number_row(&mut self, line: u32, bytes: &[u8]) -> Result<(), PlanFault>
         requires fits { ReaderFits self.old }
         requires block { self.old.block ≡ Block.Numbers }
         ensures { ReadsAs self.old self.new result (λ t _ s. adds_number line s (number_row t (fields bytes.now))) }

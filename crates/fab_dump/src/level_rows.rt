@@ -1,3 +1,6 @@
+//! The rows of levels blocks: the service level of a source for one LID, in version 1, or for up to 64.
+//!
+//! A row costs its bytes.
 ghost use Rattle.std.specs.Prelude.{◌≡◌, ◌+◌, ◌<◌, ◌≤◌, ℕ, ◌++◌, ◌∷◌, [], slice_get, slice_index_or, drop, length, IfSome, None, Some};
 ghost use Rattle.std.specs.List.{zip};
 ghost use Rattle.fab_text.specs.Fields.{fields};
@@ -53,10 +56,9 @@ impl<'f> PlanReader<'f> {
         ensures stands { (t : Topology) (f : Form) (s : State) (lid : ℕ) → slice_get (lids_of t) place ≡ Some lid → Stands t f s self.old → Stands t f
             (record { open_block = Block.Levels (switch_id switch.0); given = s.given ++ Level switch.0 lid level ∷ [] }) self.new }
     {
-        if let Some(lid) = self.fabric.lid_at(place as u32) {
-            self.lids_read[place] = true;
-            give_level(&mut self.plan, switch, lid, level);
-        }
+        let lid = self.fabric.lids_in_use()[place];
+        self.lids_read[place] = true;
+        give_level(&mut self.plan, switch, lid, level);
     }
 
     /// Gives a switch these levels for the LIDs from a place on.

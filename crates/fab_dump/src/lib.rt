@@ -1,4 +1,9 @@
 //! The text of plans: written, and read in each of its versions.
+//!
+//! `read_plan` takes plan texts of the versions 1 to 3 (docs/PLAN_TEXT.md) and plain dumps of forwarding tables,
+//! in the shape that `ibroute` and `dump_lfts` print. `write_plan` writes versions 2 and 3. Both are defined by
+//! functions that compute, in `specs/Reading.antt` and `specs/Writing.antt`, and the laws of this crate join
+//! them: what is written is read again. Reading and writing take the time of the text and the plan.
 #![tactic(auto)]
 
 mod fault;

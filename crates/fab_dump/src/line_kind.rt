@@ -1,3 +1,4 @@
+//! What a line is, by the text that it begins with.
 ghost use Rattle.std.specs.Prelude.{◌≡◌};
 ghost use Rattle.fab_dump.specs.Lines.{kind_of};
 

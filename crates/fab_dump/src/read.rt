@@ -1,3 +1,10 @@
+//! Plan texts, read.
+//!
+//! Problem: a text of bytes is to become the plan that it spells, or to be refused by the fault of its first
+//! faulty line. Definition: `plan_of` in `specs/Reading.antt`, which reads line after line and keeps what was
+//! said as a list of statements (`specs/Lines.antt`, `specs/Given.antt`). Cost: each line is read once, as it
+//! stands in the text. Sources: docs/PLAN_TEXT.md for the versions of plan texts; plain dumps have the shape
+//! that `ibroute` and `dump_lfts` print.
 ghost use Rattle.std.specs.Prelude.{◌≡◌, ◌+◌, ◌≤◌, ◌<◌, length, drop, slice_range, IfOk, IfSome, option_map, None, Some, Ok, Err};
 ghost use Rattle.std.specs.Str.Lines.{lines};
 ghost use Rattle.fab_text.specs.Fronts.{line_at};
@@ -121,8 +128,11 @@ fn read_body(alloc: Global, fabric: &Fabric, text: &[u8], first: Line) -> Result
 /// A text whose first line begins with `fabroute plan ` is a plan, and is read to its line `end plan`. Its version
 /// is 2 or 3, or 1 for a fabric of at most 512 switches and 4,096 LIDs. Any other text is read as a plain dump of
 /// forwarding tables, in the shape that `ibroute` prints, to its end. What a text says nothing of is 255, no
-/// level, lane 15 and number 0. Memory is taken for the plan, three marks for each switch and one for each LID;
-/// the time grows with the text and the plan, but that a map of a pair moves those behind it.
+/// level, lane 15 and number 0.
+///
+/// Time: the bytes of the text, a look-up by GUID for each head and number row, the plan, and for each head of a
+/// table or levels block the LIDs in use; the map of a pair moves those of later pairs. Memory: the plan, three
+/// bytes a switch and one a LID in use; nothing for a line.
 pub fn read_plan(alloc: Global, fabric: &Fabric, text: &[u8]) -> Result<Plan, PlanFault>
     requires { length text.now ≤ 536870912 }
     ensures exact { Gives wants_memory result (plan_of fabric.now text.now) }

@@ -1,3 +1,8 @@
+//! The reader of a plan text, line by line: what was read so far, and what one more line says.
+//!
+//! It stands for the statements of the lines so far (`Stands` in `specs/Standing.antt`): the plan that they
+//! make, the block that is open, and marks of the switches and LIDs that they speak of, so that nothing is
+//! said twice. It takes the plan, three marks for each switch and one for each LID in use.
 ghost use Rattle.std.specs.Prelude.{◌≡◌, ◌<◌, ◌≤◌, ℕ, length, IfOk, IfSome, MatchResult, None, Some, Ok, Err};
 ghost use Rattle.fab_text.specs.Fields.{fields};
 ghost use Rattle.fab_model.specs.WellFormed.{IsFabric};
@@ -152,12 +157,7 @@ impl<'f> PlanReader<'f> {
     }
 
     /// Reads a line where a lane map waits for its row.
-    fn waiting_line(
-        &mut self,
-        line: u32,
-        switch: SwitchId,
-        bytes: &[u8],
-    ) -> Result<(), PlanFault>
+    fn waiting_line(&mut self, line: u32, switch: SwitchId, bytes: &[u8]) -> Result<(), PlanFault>
         requires fits { ReaderFits self.old }
         requires block { self.old.block ≡ Block.MapRow switch }
         ensures { ReadsAs self.old self.new result (λ _ f s. waiting_line f line s switch.0 bytes.now (kind_of bytes.now)) }
@@ -169,11 +169,7 @@ impl<'f> PlanReader<'f> {
     }
 
     /// Reads a line.
-    pub(crate) fn line(
-        &mut self,
-        line: u32,
-        bytes: &[u8],
-    ) -> Result<Step, PlanFault>
+    pub(crate) fn line(&mut self, line: u32, bytes: &[u8]) -> Result<Step, PlanFault>
         requires fits { ReaderFits self.old }
         ensures { ReadsStepAs self.old self.new result (λ t f s. line_says t f line s bytes.now) }
     {

@@ -1,3 +1,7 @@
+//! What heads and rows say, by their fields alone.
+//!
+//! Each call passes the bytes of its line and takes no memory; one that names a switch or a channel also looks
+//! it up.
 ghost use Rattle.std.specs.Prelude.{◌≡◌, ◌<◌, ◌≤◌, ◌≢◌, ℕ, List, All, IfSome, MatchOption, Some, None, drop, length, option_and_then, option_map, slice_index_or, take};
 ghost use Rattle.fab_text.specs.Fields.{fields, dec, dec_up_to, hex, all_read, only_field};
 ghost use Rattle.fab_model.specs.Topology.{switch_id, switch_of};

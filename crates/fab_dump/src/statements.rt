@@ -1,3 +1,5 @@
+//! Single statements of a plan text, given to the plan: a port, a level, a lane map, a number, the map of a
+//! pair.
 ghost use Rattle.std.specs.Prelude.{◌≡◌, ◌<◌, ◌≤◌, All, Contains, IfSome, IfOk, OnOk, IsErrOf, Some, length, nat_lt};
 ghost use Rattle.fab_tables.specs.LaneTables.{LaneTables, HasRoomFor, with_pair_row};
 ghost use Rattle.fab_dump.specs.Given.{plan_with, with_lanes};

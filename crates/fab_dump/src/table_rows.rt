@@ -1,3 +1,7 @@
+//! The rows of table blocks: the port by which a switch forwards to one LID, in plain dumps and in version 1,
+//! or to each of up to 64.
+//!
+//! A row costs its bytes.
 ghost use Rattle.std.specs.Prelude.{◌≡◌, ◌+◌, ◌<◌, ◌≤◌, ℕ, ◌++◌, ◌∷◌, [], slice_get, slice_index_or, drop, length, MatchOption, IfSome, None, Some};
 ghost use Rattle.std.specs.List.{zip};
 ghost use Rattle.fab_text.specs.Fields.{fields, dec};
@@ -66,10 +70,9 @@ impl<'f> PlanReader<'f> {
         ensures stands { (t : Topology) (f : Form) (s : State) (lid : ℕ) → slice_get (lids_of t) place ≡ Some lid → Stands t f s self.old → Stands t f
             (record { open_block = Block.Table (Some (switch_id switch.0)); given = s.given ++ Port switch.0 lid port ∷ [] }) self.new }
     {
-        if let Some(lid) = self.fabric.lid_at(place as u32) {
-            self.lids_read[place] = true;
-            give_port(&mut self.plan, switch, lid, port);
-        }
+        let lid = self.fabric.lids_in_use()[place];
+        self.lids_read[place] = true;
+        give_port(&mut self.plan, switch, lid, port);
     }
 
     /// Gives a switch these ports for the LIDs from a place on.

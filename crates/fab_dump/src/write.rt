@@ -1,3 +1,8 @@
+//! Plans, written as texts.
+//!
+//! Problem: the text of a plan goes to a sink, with no more of it in memory than the rows of one switch.
+//! Definition: `plan_text` in `specs/Writing.antt`, the lines of docs/PLAN_TEXT.md in version 2, or 3 where a
+//! pair of ports has a map. A text is read again by `read_plan` (the laws of this crate).
 ghost use Rattle.std.specs.Prelude.{◌≡◌, ◌≤◌};
 ghost use Rattle.std.specs.List.{flat_map, enumerate_from};
 ghost use Rattle.fab_tables.specs.Fit.{PlanFits, EntriesFit, LanesFit};
@@ -147,8 +152,11 @@ fn put_lane_part<S: Sink>(
     }
 }
 
-/// Puts the text of a plan: in version 3 where a pair of ports has a map, else in version 2. It holds no more
-/// of the text at a time than the rows of one switch. After a fault the sink has a prefix of the text.
+/// Puts the text of a plan: in version 3 where a pair of ports has a map, else in version 2. After a fault the
+/// sink has a prefix of the text.
+///
+/// Time: the text, some 4 bytes for each switch and LID, 3 more with lanes, and 35 for each number. Memory: the
+/// text of one block at a time, some 4 bytes a LID. One put a block or a channel.
 pub fn write_plan<S: Sink>(
     alloc: Global,
     fabric: &Fabric,

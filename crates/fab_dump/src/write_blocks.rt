@@ -1,20 +1,18 @@
-//! The lines of a plan's text.
+//! The lines of a plan's text, block by block, appended to a text of bytes.
+//!
+//! Each call takes the time of the bytes that it appends, and room for them.
 ghost use Rattle.std.specs.Prelude.{◌≡◌, ◌+◌, ◌-◌, ◌<◌, ◌++◌, ◌∷◌, [], All, IfOk, IfSome, OnOk, length, slice_get, slice_index};
-ghost use Rattle.std.specs.Int.{div_ceil};
 ghost use Rattle.fab_model.specs.Topology.{lids_of};
 ghost use Rattle.fab_model.specs.WellFormed.{IsFabric};
 ghost use Rattle.fab_tables.specs.LaneTables.{AreLaneTables};
 ghost use Rattle.fab_dump.specs.Writing as writing;
-ghost use Rattle.fab_dump.specs.BlockValues.{value_text, AreOfSwitch, of_switch, BeginAt};
+ghost use Rattle.fab_dump.specs.BlockValues.{value_text, numbers_of, AreOfSwitch, of_switch, BeginAt};
 
 use crate::rows::ROW_LIDS;
 use fab_model::{ChannelId, Fabric, Lid, SwitchId, SwitchRow};
 use fab_tables::{Lanes, PairRow, Plan, Tables};
 use fab_text::{push_dec, push_hex4, push_hex16, push_port3, push_two};
 use std::alloc::AllocError;
-
-/// How many LIDs a row has at most.
-const IN_ROW: u32 = ROW_LIDS as u32;
 
 /// What the rows of a block tell of each LID.
 #[derive(Drop)]
@@ -115,39 +113,16 @@ pub(crate) fn push_start(text: &mut Vec<u8>, plan: &Plan) -> Result<(), AllocErr
     push(text, b"\n")
 }
 
-/// The LID at a place of the ascending list of those in use, 0 past its end.
-fn lid_at(fabric: &Fabric, place: u32) -> Lid
-    ensures { result.0 ≡ slice_index (lids_of fabric.now) place }
-{
-    match fabric.lid_at(place) {
-        Some(lid) => lid,
-        None => Lid(0),
-    }
-}
-
-/// Appends the LID at a place of the ascending list of those in use, 0 past its end.
-fn push_lid_at(text: &mut Vec<u8>, fabric: &Fabric, place: u32) -> Result<(), AllocError>
-    ensures { OnOk result (text.new.items ≡ text.old.items ++ writing.hex4 (slice_index (lids_of fabric.now) place)) }
-{
-    push_lid(text, lid_at(fabric, place))
-}
-
-/// Appends the greatest LID in use.
-fn push_last_lid(text: &mut Vec<u8>, fabric: &Fabric) -> Result<(), AllocError>
-    ensures { OnOk result (text.new.items ≡ text.old.items ++ writing.hex4 (slice_index (lids_of fabric.now) (length (lids_of fabric.now) - 1))) }
-{
-    push_lid_at(text, fabric, fabric.lids().saturating_sub(1))
-}
-
 /// Appends the first half of the line that opens a table block: the least and the greatest LID in use.
 #[tactic(auto, unfolding(crate::specs::Writing::lids_text))]
-fn push_lids(text: &mut Vec<u8>, fabric: &Fabric) -> Result<(), AllocError>
-    ensures { OnOk result (text.new.items ≡ text.old.items ++ writing.lids_text (lids_of fabric.now)) }
+fn push_lids(text: &mut Vec<u8>, lids: &[Lid]) -> Result<(), AllocError>
+    requires { 0 < length lids.now }
+    ensures { OnOk result (text.new.items ≡ text.old.items ++ writing.lids_text (numbers_of lids.now)) }
 {
     push(text, b"Unicast lids [")?;
-    push_lid_at(text, fabric, 0)?;
+    push_lid(text, lids[0])?;
     push(text, b"-")?;
-    push_last_lid(text, fabric)?;
+    push_lid(text, lids[lids.len() - 1])?;
     push(text, b"] of switch ")
 }
 
@@ -168,9 +143,10 @@ fn push_switch(text: &mut Vec<u8>, row: &SwitchRow) -> Result<(), AllocError>
 /// Appends the line that opens a table block.
 #[tactic(auto, unfolding(crate::specs::Writing::table_head_text))]
 fn push_table_head(text: &mut Vec<u8>, fabric: &Fabric, row: &SwitchRow) -> Result<(), AllocError>
+    requires { 0 < length (lids_of fabric.now) }
     ensures { OnOk result (text.new.items ≡ text.old.items ++ writing.table_head_text (lids_of fabric.now) row.now) }
 {
-    push_lids(text, fabric)?;
+    push_lids(text, fabric.lids_in_use())?;
     push_switch(text, row)
 }
 
@@ -193,26 +169,22 @@ fn push_value(
     }
 }
 
-/// Appends the row of a number: up to 64 LIDs.
+/// Appends a row: its first LID, and what it tells of each.
 #[tactic(auto, unfolding(crate::specs::Writing::row_text))]
 fn push_row(
     text: &mut Vec<u8>,
-    fabric: &Fabric,
+    lids: &[Lid],
     values: &BlockValues,
     switch: SwitchId,
-    number: u32,
 ) -> Result<(), AllocError>
+    requires some { 0 < length lids.now }
     requires values { AreOfSwitch values.now switch.0 }
-    requires number { number < div_ceil (length (lids_of fabric.now)) 64 }
-    ensures { OnOk result (text.new.items ≡ text.old.items ++ writing.numbered_row fabric.now (value_text values.now switch.0) number) }
+    ensures { OnOk result (text.new.items ≡ text.old.items ++ writing.row_text (value_text values.now switch.0) (numbers_of lids.now)) }
 {
-    let count = fabric.lids();
-    let first = number * IN_ROW;
-    let past = count.min(first + IN_ROW);
-    push_lid_at(text, fabric, first)?;
-    for place in first..past {
+    push_lid(text, lids[0])?;
+    for lid in lids {
         push(text, b" ")?;
-        push_value(text, values, switch, lid_at(fabric, place))?;
+        push_value(text, values, switch, *lid)?;
     }
     Ok(())
 }
@@ -227,8 +199,11 @@ fn push_rows(
     requires { AreOfSwitch values.now switch.0 }
     ensures { OnOk result (text.new.items ≡ text.old.items ++ writing.lines_text (writing.block_rows fabric.now (value_text values.now switch.0))) }
 {
-    for number in 0..fabric.lids().div_ceil(IN_ROW) {
-        push_row(text, fabric, values, switch, number)?;
+    let lids = fabric.lids_in_use();
+    for number in 0..lids.len().div_ceil(ROW_LIDS) {
+        let first = number * ROW_LIDS;
+        let past = lids.len().min(first + ROW_LIDS);
+        push_row(text, &lids[first..past], values, switch)?;
         push(text, b"\n")?;
     }
     Ok(())

@@ -43,6 +43,6 @@ returns c = λ f s stands orderly.
     let mark = get_or_read r.lids_read.items first c.index.result.now within c.index.ensures false in (
       _,
       row_new (lids_of t) (lids_are t c.requires.fits.fabric).ascending (BadLevelRow c.args.line) c.args.line s (Levels (switch_id c.args.switch.0)) (Level c.args.switch.0) level_field first count (take count levels) line c.index.result.now are good all
-    (level_mark f s r stands c.args.switch first c.index.result.now c.requires.block mark) c.if-index.false,
+          (level_mark f s r stands c.args.switch first c.index.result.now c.requires.block mark) c.if-index.false,
       c.set_levels.ensures f s stands,
     )

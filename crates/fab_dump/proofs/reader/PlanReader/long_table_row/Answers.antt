@@ -42,6 +42,6 @@ returns c = λ f s stands orderly.
     let mark = get_or_read r.lids_read.items first c.index.result.now within c.index.ensures false in (
       _,
       row_new (lids_of t) (lids_are t c.requires.fits.fabric).ascending (BadRow c.args.line) c.args.line s (Table (Some (switch_id c.args.switch.0))) (Port c.args.switch.0) (dec 3 255) first count (take count ports) line c.index.result.now are good all
-    (port_mark f s r stands c.args.switch first c.index.result.now c.requires.block mark) c.if-index.false,
+          (port_mark f s r stands c.args.switch first c.index.result.now c.requires.block mark) c.if-index.false,
       c.set_ports.ensures f s stands,
     )

@@ -1,25 +1,24 @@
-use Rattle.std.proofs.Common.{◌≡◌, ◌∙◌, ℕ, ◌∷◌, [], ◌++◌, Some, true, sym, ap, subst, arith}
-use Rattle.std.specs.Prelude.{option_map, slice_get}
+use Rattle.std.proofs.Common.{◌∷◌, [], ◌++◌, Some, true, sym, ap, subst, ◌∙◌, arith}
+use Rattle.std.specs.Prelude.{slice_get}
 use Rattle.std.specs.Vec.{with_item}
-use Rattle.fab_model.specs.Topology.{Topology, lids_of, lid_id, switch_id}
-use Rattle.fab_tables.proofs.Ascending.{lids_are}
+use Rattle.fab_model.specs.Topology.{Topology, lids_of, switch_id}
+use Rattle.fab_model.proofs.LidsInUse.{as_many, contains_lid}
 use Rattle.fab_dump.specs.declared.form.Block.TheVariants.{Table}
 use Rattle.fab_dump.specs.Given.Given.{Port}
 use Rattle.fab_dump.specs.Standing.{Stands}
-use Rattle.fab_dump.proofs.LongRows.{lid_place, same_lid_there}
-use Rattle.fab_dump.proofs.AfterRows.{after_port}
+use Rattle.fab_dump.proofs.AfterRows.{after_port_at}
 use Rattle.fab_dump.proofs.reader.PlanReader.set_port.Goals as goal
 
-pub overflow_cast-place : goal.overflow_cast-place
-overflow_cast-place c = record { fits = omega (arith, (lids_are c.args.self.now.fabric.now c.requires.fits.fabric).few, c.requires.within) }
+pub returns-clause-stands : goal.returns-clause-stands
+returns-clause-stands c = λ t f s lid got stands.
+    let r = c.args.self.now in
+    let here = subst (λ (x : Topology). Stands x f s r) (sym stands.same) stands in
+    let there = ap (λ (x : Topology). slice_get (lids_of x) c.args.place) stands.same ∙ got in
+    subst (λ (x : Topology). Stands x f (record { open_block = Table (Some (switch_id c.args.switch.0)); given = s.given ++ Port c.args.switch.0 lid c.args.port ∷ [] }) (record r { plan = c.give_port.new.plan; lids_read = with_item r.lids_read c.args.place true })) stands.same
+    (after_port_at f s r here c.lids_in_use.result.now _ c.args.switch lid c.args.port c.args.place c.give_port.new.plan c.lids_in_use.ensures.lids (omega (arith, as_many c.lids_in_use.result.now (lids_of r.fabric.now) c.lids_in_use.ensures.lids, c.requires.within)) there c.requires.block
+    (omega (arith, c.requires.within, c.requires.fits.row_marks)) c.give_port.ensures)
 
-pub returns-in-Some-clause-stands : goal.returns-in-Some-clause-stands
-returns-in-Some-clause-stands c = λ t f s lid got stands.
-    let place = c.args.place in
-    let found = c.in-Some.lid in
-    let here : Stands c.args.self.now.fabric.now f s c.args.self.now = subst (λ (x : Topology). Stands x f s c.args.self.now) (sym stands.same) stands in
-    let same : found.0 ≡ lid = same_lid_there (lids_of t) place lid found got (c.in-Some.ensures ∙ ap (λ (x : Topology). option_map lid_id (slice_get (lids_of x) place)) stands.same) in
-    subst (λ (x : Topology). Stands x f (record { open_block = Table (Some (switch_id c.args.switch.0)); given = s.given ++ Port c.args.switch.0 lid c.args.port ∷ [] }) (record c.args.self.now { plan = c.give_port.new.plan; lids_read = with_item c.args.self.now.lids_read place true })) stands.same
-    (subst (λ (l : ℕ). Stands c.args.self.now.fabric.now f (record { open_block = Table (Some (switch_id c.args.switch.0)); given = s.given ++ Port c.args.switch.0 l c.args.port ∷ [] }) (record c.args.self.now { plan = c.give_port.new.plan; lids_read = with_item c.args.self.now.lids_read place true })) same
-    (after_port f s c.args.self.now here c.args.switch found.0 c.args.port place c.give_port.new.plan c.requires.block
-    (lid_place c.args.self.now.fabric.now place found c.requires.fits.fabric c.in-Some.ensures) (omega (arith, c.requires.within, c.requires.fits.row_marks)) c.give_port.ensures))
+pub give_port-requires-clause-in_use : goal.give_port-requires-clause-in_use
+give_port-requires-clause-in_use c =
+    contains_lid c.lids_in_use.result.now c.args.self.now.plan.tables.in_use (c.lids_in_use.ensures.lids ∙ sym c.requires.fits.plan.in_use) c.args.place _
+    (omega (arith, as_many c.lids_in_use.result.now (lids_of c.args.self.now.fabric.now) c.lids_in_use.ensures.lids, c.requires.within))

@@ -6,7 +6,7 @@ use Rattle.fab_dump.specs.declared.fault.PlanFault.TheVariants.{TwiceRow, BadLev
 use Rattle.fab_dump.specs.declared.form.Block.TheVariants.{Levels}
 use Rattle.fab_dump.specs.Given.Given.{Level}
 use Rattle.fab_dump.specs.Lines.Next.{Fails}
-use Rattle.fab_dump.proofs.ShortRows.{row_in_use, lanes_have_place}
+use Rattle.fab_dump.proofs.ShortRows.{row_in_use, lanes_contain, has_place}
 use Rattle.fab_dump.proofs.AfterRows.{after_level, level_mark}
 use Rattle.fab_dump.proofs.AfterHeads.{new_added, old_refused}
 use Rattle.fab_dump.proofs.reader.PlanReader.short_level_row.Goals as goal
@@ -40,4 +40,5 @@ returns c = λ f s stands orderly.
 
 pub give_level-requires-clause-in_use : goal.give_level-requires-clause-in_use
 give_level-requires-clause-in_use c =
-    lanes_have_place c.args.self.now.fabric.now c.args.self.now.plan.lanes c.in-Some.lid c.in-Some-place.place (ap (index_of c.in-Some.lid) (sym c.requires.fits.lids) ∙ sym c.in-Some-place.ensures.place) c.requires.fits.plan.lanes
+    lanes_contain c.args.self.now.fabric.now c.args.self.now.plan.lanes c.in-Some.lid
+    (has_place (lids_of c.args.self.now.fabric.now) c.in-Some.lid c.in-Some-place.place (ap (index_of c.in-Some.lid) (sym c.requires.fits.lids) ∙ sym c.in-Some-place.ensures.place)) c.requires.fits.plan.lanes
