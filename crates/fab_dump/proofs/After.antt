@@ -1,9 +1,9 @@
 -- The reader after one statement more.
-use Rattle.std.proofs.Common.{◌≡◌, ℕ, ◌<◌, Bool, false, List, [], ◌∷◌, ◌++◌, length, length-set, sym, ◌∙◌, arith, refl}
+use Rattle.std.proofs.Common.{◌≡◌, ℕ, Bool, false, List, [], ◌∷◌, ◌++◌, length, sym, ◌∙◌, refl}
 use Rattle.std.specs.Prelude.{Vec}
 use Rattle.std.specs.Str.{bytes_eq}
 use Rattle.std.specs.declared.alloc.Global.{Global}
-use Rattle.fab_model.specs.Topology.{Topology, lids_of}
+use Rattle.fab_model.specs.Topology.{lids_of}
 use Rattle.fab_tables.specs.declared.plan.Plan.{Plan}
 use Rattle.fab_dump.specs.declared.form.Block.{Block}
 use Rattle.fab_dump.specs.declared.reader.PlanReader.{PlanReader}

@@ -5,7 +5,7 @@ use Rattle.std.specs.Vec.{with_item}
 use Rattle.std.specs.declared.alloc.Global.{Global}
 use Rattle.fab_model.specs.declared.rows.Lid.{Lid}
 use Rattle.fab_model.specs.declared.rows.SwitchId.{SwitchId}
-use Rattle.fab_model.specs.Topology.{Topology, lids_of, switch_id}
+use Rattle.fab_model.specs.Topology.{lids_of, switch_id}
 use Rattle.fab_model.proofs.LidsInUse.{lid_there}
 use Rattle.fab_tables.proofs.Ascending.{lids_are}
 use Rattle.fab_tables.specs.Entries.{index_of}

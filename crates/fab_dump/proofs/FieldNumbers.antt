@@ -1,14 +1,13 @@
 -- The number that a field is.
-use Rattle.std.proofs.Common.{◌≡◌, ℕ, ◌+◌, ◌^◌, ◌<◌, ◌≤◌, ◌-◌, ◌*◌, suc, lit<, IfSome, Bool, true, false, cond, List, [], ◌∷◌, length, drop, get_or, Some, None, Option, ◌&&◌, ◌⊎◌, inl, inr, nat_lt, nat_le, refl, sym, ◌∙◌, ap, arith}
+use Rattle.std.proofs.Common.{◌≡◌, ℕ, ◌+◌, ◌^◌, ◌<◌, ◌≤◌, ◌*◌, suc, lit<, IfSome, Bool, true, false, cond, List, [], ◌∷◌, length, drop, get_or, Some, None, Option, ◌&&◌, ◌⊎◌, inl, inr, nat_lt, nat_le, refl, sym, ◌∙◌, ap, arith}
 use Rattle.std.specs.Prelude.{◌==◌, if◌then◌else◌, codes}
 use Rattle.std.specs.List.{list_all, starts_with}
 use Rattle.std.specs.Char.{digit_value, is_digit}
 use Rattle.std.proofs.Math.Nat.{mul-le-mul_right, pow-succ', pow-le-pow_right}
 use Rattle.std.proofs.lemmas.List.{length-drop}
 use Rattle.std.proofs.lemmas.Bool.{and_from, and_left, and_parts, and_right, cond_both, leb-true, le-leb, lt-ltb}
-use Rattle.std.proofs.lemmas.Bool.Decides.{nat_tests}
 use Rattle.fab_text.specs.Digits.{number_after, number_spelled}
-use Rattle.fab_text.specs.Fields.{dec, dec_up_to, hex}
+use Rattle.fab_text.specs.Fields.{dec, hex}
 use Rattle.fab_text.proofs.Numbers.{passes_u64}
 use Rattle.fab_dump.specs.FieldsLeft.{spelled_in}
 

@@ -9,7 +9,6 @@ use Rattle.std.proofs.lemmas.List.Kept.{AllPairs-from_increasing}
 use Rattle.std.proofs.lemmas.Option.{slice_get_within, get_or_from_slice_get, slice_get-get_or}
 use Rattle.fab_text.specs.Fields.{hex, all_read}
 use Rattle.fab_model.specs.Topology.{Topology, lids_of}
-use Rattle.fab_model.specs.WellFormed.{IsFabric}
 use Rattle.fab_tables.specs.Entries.{index_of}
 use Rattle.fab_tables.proofs.Cells.{index_found, index_there}
 use Rattle.fab_dump.specs.declared.fault.PlanFault.{PlanFault}

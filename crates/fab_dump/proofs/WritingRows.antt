@@ -1,5 +1,5 @@
 -- The loops that write rows.
-use Rattle.std.proofs.Common.{◌≡◌, ◌<◌, ◌≤◌, ◌+◌, ◌-◌, ◌*◌, ℕ, zero, suc, List, [], ◌∷◌, ◌++◌, Some, length, get_or, take, drop, map, min, refl, sym, ap, ◌∙◌, arith, add-one, add-zero, append_assoc, append-nil, length-drop, get_or-take, get_or-drop}
+use Rattle.std.proofs.Common.{◌≡◌, ◌<◌, ◌≤◌, ◌+◌, ◌-◌, ◌*◌, ℕ, zero, suc, List, [], ◌∷◌, ◌++◌, Some, length, get_or, take, drop, map, min, refl, sym, ap, ◌∙◌, arith, add-one, append_assoc, append-nil, length-drop}
 use Rattle.std.specs.Prelude.{codes, slice_get}
 use Rattle.std.specs.Int.{div_ceil}
 use Rattle.std.specs.List.{concat, flat_map, enumerate_from, range_with_len, join_with_byte}
