@@ -1,26 +1,17 @@
 -- The graph of a list of edges has a first ring, or no closed walk.
-use Rattle.std.proofs.Common.{◌≡◌, ℕ, zero, suc, ◌<◌, List, [], ◌∷◌, length, slice_index_or, ◌⊎◌, inl, inr, refl, sym, ap, subst, arith}
+use Rattle.std.proofs.Common.{◌≡◌, ℕ, zero, suc, ◌+◌, ◌<◌, List, [], ◌∷◌, ◌⊎◌, inl, inr, refl, sym, ap, subst, arith}
 use Rattle.std.specs.Prelude.{Contains}
 use Rattle.fab_graph.specs.Walks.{Walk, Leads, IsOnClosedWalk, IsAcyclic, IsEdge}
 use Rattle.fab_graph.specs.Least.{IsLeast}
 use Rattle.fab_graph.specs.Rings.{Returns, IsNearness, IsNearer, ReturnsByLeast, IsFirstRing}
 use Rattle.fab_graph.proofs.Decided.{Decided, equal, equivalent, both, either, least_of}
+use Rattle.fab_graph.proofs.Members.{first, later, first_or_later}
 use Rattle.fab_graph.proofs.Parts.{walk_in}
 use Rattle.fab_graph.proofs.Same.{same_least}
+use Rattle.fab_graph.proofs.Walks.{walk_through}
 
 abbrev Edges : Type 0
 Edges = List (ℕ × ℕ)
-
--- an edge of a list is its first, or one of the others
-first_or_later : (e x : ℕ × ℕ) (es : Edges) (k : ℕ) → k < length (e ∷ es) → slice_index_or (e ∷ es) k x ≡ x → (e ≡ x) ⊎ Contains es x
-first_or_later e x es zero h q = inl q
-first_or_later e x es (suc k) h q = inr (k, omega (arith, h), q)
-
-first : (e : ℕ × ℕ) (es : Edges) → Contains (e ∷ es) e
-first e es = (zero, omega arith, refl)
-
-later : (e x : ℕ × ℕ) (es : Edges) → Contains es x → Contains (e ∷ es) x
-later e x es c = (suc c.0, omega (arith, c.1), c.2)
 
 -- some edge of which a fact holds
 abbrev SomeEdge : Edges → (ℕ → ℕ → Type 0) → Type 0
@@ -28,7 +19,7 @@ SomeEdge es P = (x y : ℕ) × IsEdge es x y × P x y
 
 some_here : (P : ℕ → ℕ → Type 0) (e : ℕ × ℕ) (es : Edges) → P e.0 e.1 ⊎ SomeEdge es P → SomeEdge (e ∷ es) P
 some_here P e es (inl p) = (e.0, e.1, first e es, p)
-some_here P e es (inr s) = (s.0, s.1, later e (s.0, s.1) es s.2, s.3)
+some_here P e es (inr s) = (s.0, s.1, later e es (s.0, s.1) s.2, s.3)
 
 some_there : (P : ℕ → ℕ → Type 0) (e : ℕ × ℕ) (es : Edges) (x y : ℕ) → P x y → (e ≡ (x, y)) ⊎ Contains es (x, y) → P e.0 e.1 ⊎ SomeEdge es P
 some_there P e es x y p (inl q) = inl (subst (λ (z : ℕ × ℕ). P z.0 z.1) (sym q) p)
@@ -38,16 +29,15 @@ some_decided : (P : ℕ → ℕ → Type 0) → ((x y : ℕ) → Decided (P x y)
 some_decided P decide [] = inr (λ s. omega (arith, s.2.1))
 some_decided P decide (e ∷ es) =
     equivalent (P e.0 e.1 ⊎ SomeEdge es P) (SomeEdge (e ∷ es) P) (some_here P e es)
-    (λ s. some_there P e es s.0 s.1 s.3 (first_or_later e (s.0, s.1) es s.2.0 s.2.1 s.2.2))
+    (λ s. some_there P e es s.0 s.1 s.3 (first_or_later e es (s.0, s.1) s.2))
     (either (P e.0 e.1) (SomeEdge es P) (decide e.0 e.1) (some_decided P decide es))
 
 -- a walk, of any number of edges
 abbrev Comes : Edges → ℕ → ℕ → Type 0
 Comes es a b = (n : ℕ) × Walk (IsEdge es) n a b
 
-then_comes : (es : Edges) (n a b c : ℕ) → Walk (IsEdge es) n a b → Comes es b c → Comes es a c
-then_comes es zero a b c w r = subst (λ (x : ℕ). Comes es x c) (sym w) r
-then_comes es (suc n) a b c w r = let rest : Comes es w.0 c = then_comes es n w.0 b c w.2 r in (suc rest.0, (w.0, w.1, rest.1))
+then_comes : (es : Edges) (a b c : ℕ) → Comes es a b → Comes es b c → Comes es a c
+then_comes es a b c w v = (w.0 + v.0, walk_through (IsEdge es) w.0 v.0 a b c w.1 v.1)
 
 -- By whether it goes along the first edge: a walk along the others, or one to that edge and one from it.
 abbrev ComesBy : (ℕ × ℕ) → Edges → ℕ → ℕ → Type 0
@@ -62,17 +52,17 @@ part_step e es a c b (inr k) (inr r) = inr ((suc r.0.0, (c, k, r.0.1)), r.1)
 
 parted : (e : ℕ × ℕ) (es : Edges) (n a b : ℕ) → Walk (IsEdge (e ∷ es)) n a b → ComesBy e es a b
 parted e es zero a b w = inl (zero, w)
-parted e es (suc n) a b w = part_step e es a w.0 b (first_or_later e (a, w.0) es w.1.0 w.1.1 w.1.2) (parted e es n w.0 b w.2)
+parted e es (suc n) a b w = part_step e es a w.0 b (first_or_later e es (a, w.0) w.1) (parted e es n w.0 b w.2)
 
 comes_in : (e : ℕ × ℕ) (es : Edges) (a b : ℕ) → Comes es a b → Comes (e ∷ es) a b
-comes_in e es a b r = (r.0, walk_in (IsEdge es) (IsEdge (e ∷ es)) (λ x y. later e (x, y) es) r.0 a b r.1)
+comes_in e es a b r = (r.0, walk_in (IsEdge es) (IsEdge (e ∷ es)) (λ x y. later e es (x, y)) r.0 a b r.1)
 
 whole : (e : ℕ × ℕ) (es : Edges) (a b : ℕ) → ComesBy e es a b → Comes (e ∷ es) a b
 whole e es a b (inl r) = comes_in e es a b r
 whole e es a b (inr r) =
     let to : Comes (e ∷ es) a e.0 = comes_in e es a e.0 r.0 in
     let from : Comes (e ∷ es) e.1 b = comes_in e es e.1 b r.1 in
-    then_comes (e ∷ es) to.0 a e.0 b to.1 (suc from.0, (e.1, first e es, from.1))
+    then_comes (e ∷ es) a e.0 b to (suc from.0, (e.1, first e es, from.1))
 
 no_edges : (n a b : ℕ) → Walk (IsEdge []) n a b → a ≡ b
 no_edges zero a b w = w
@@ -136,17 +126,17 @@ least_nearer es f a n near b p =
     (found.0, same_least (Nears es f a n) (IsNearer (IsEdge es) f a n) (nearer es f a n near) (λ c x. (x.0, x.1.holds)) found.0 found.1)
 
 -- from a node of known nearness a ring goes on
-ring_from : (es : Edges) (f n a : ℕ) → IsNearness (IsEdge es) f a (suc n) → (rest : List ℕ) × ReturnsByLeast (IsEdge es) f (a ∷ rest)
-ring_from es f zero a near = ([], near)
-ring_from es f (suc n) a near =
+ring_on : (es : Edges) (f n a : ℕ) → IsNearness (IsEdge es) f a (suc n) → (rest : List ℕ) × ReturnsByLeast (IsEdge es) f (a ∷ rest)
+ring_on es f zero a near = ([], near)
+ring_on es f (suc n) a near =
     let w = near.holds.1 in
     let next : (b : ℕ) × IsLeast (IsNearer (IsEdge es) f a (suc n)) b = least_nearer es f a (suc n) near w.0 (w.1, (omega arith, w.2)) in
-    let rest : (rest : List ℕ) × ReturnsByLeast (IsEdge es) f (next.0 ∷ rest) = ring_from es f n next.0 next.1.holds.1 in
+    let rest : (rest : List ℕ) × ReturnsByLeast (IsEdge es) f (next.0 ∷ rest) = ring_on es f n next.0 next.1.holds.1 in
     (next.0 ∷ rest.0, (suc n, omega arith, near, next.1, rest.1))
 
 ring_at : (es : Edges) (f n : ℕ) → IsNearness (IsEdge es) f f n → (rest : List ℕ) × ReturnsByLeast (IsEdge es) f (f ∷ rest)
 ring_at es f zero near = absurd (omega (arith, near.holds.0))
-ring_at es f (suc n) near = ring_from es f n f near
+ring_at es f (suc n) near = ring_on es f n f near
 
 pub first_ring : (es : Edges) (a : ℕ) → IsOnClosedWalk (IsEdge es) a → (ring : List ℕ) × IsFirstRing (IsEdge es) ring
 first_ring es a w =

@@ -1,6 +1,13 @@
+pub mod Members
+pub mod Walks
 pub mod Graphs
 pub mod Same
 pub mod Parts
+pub mod Orders
+pub mod Counting
+pub mod Repeats
 pub mod Decided
+pub mod Choices
 pub mod FirstRings
+pub mod Rings
 pub mod Examples

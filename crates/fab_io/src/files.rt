@@ -1,3 +1,4 @@
+//! Real files, and standard input, as a shelf.
 ghost use Rattle.std.specs.Prelude.{◌≡◌, ◌+◌, ◌≤◌, None, [], length, IfOk};
 ghost use Rattle.fab_io.specs.Shelf.{Fetches};
 ghost use Rattle.fab_io.specs.Reading.{TakesAtMost, AppendsRead, ReadsWhole};

@@ -1,3 +1,4 @@
+//! A shelf of contents in memory, some of whose fetches are named to fail.
 ghost use Rattle.std.specs.Prelude.{◌≡◌, ◌≤◌, ◌++◌, [], ◌∷◌, OnOk, OnErr, ◌==◌, map, string_bytes, option_map};
 ghost use Rattle.std.specs.List.{list_any};
 ghost use Rattle.fab_io.specs.Shelf.{Fetches, CountsFetch, NoneFell};
@@ -15,7 +16,8 @@ struct Entry {
 
 /// A shelf in memory, which tells each content that was added. Every fetch takes a number, counted from 1,
 /// whatever it answers. It fails exactly where its number was named or its name was never added. One count
-/// of failures serves all names.
+/// of failures serves all names. A fetch takes time for the names added, the fetches named and the content, and
+/// room for the content.
 #[derive(Drop)]
 pub struct MemoryShelf {
     entries: Vec<Entry>,

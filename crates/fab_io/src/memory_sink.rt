@@ -1,3 +1,4 @@
+//! A sink in memory, some of whose puts are named to fail.
 ghost use Rattle.std.specs.Prelude.{◌≡◌, ◌≢◌, ◌≤◌, ◌++◌, [], ◌∷◌, OnOk, OnErr, Ok, map};
 ghost use Rattle.fab_io.specs.Sink.{Puts, CountsPut};
 ghost use Rattle.fab_io.specs.MemorySink.{bytes_told, PutsAsNamed, kept_at};
@@ -13,7 +14,8 @@ struct Failing {
 }
 
 /// A sink in memory, which tells all its bytes. Every put of a piece that isn't empty takes a number, counted
-/// from 1, whatever it answers. It fails exactly where its number was named.
+/// from 1, whatever it answers. It fails exactly where its number was named. A put takes time for its piece and
+/// the named puts, and room for its piece.
 #[derive(Drop)]
 pub struct MemorySink {
     bytes: Vec<u8>,

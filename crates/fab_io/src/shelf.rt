@@ -1,3 +1,4 @@
+//! Contents by name: what a fetch answers, and what it does to the counts of faults.
 ghost use Rattle.std.specs.Prelude.{◌≡◌, ◌≤◌, ℕ, List, Option};
 ghost use Rattle.fab_io.specs.Shelf.{Fetches, CountsFetch, NoneFell};
 
@@ -25,7 +26,8 @@ pub trait Shelf {
 
     /// Puts the whole content of a name into a buffer, in place of what the buffer holds, and answers true.
     /// It answers false where the content has more bytes than the limit, which is at most 512 MiB. Then, and
-    /// after a fault, the buffer is empty.
+    /// after a fault, the buffer is empty. Time and room are those of the content, or of the limit where that
+    /// is less.
     fn fetch(&mut self, name: &str, limit: usize, into: &mut Vec<u8>) -> Result<bool, FetchFault>
         requires { limit ≤ 536870912 }
         ensures content { Fetches (told self.old name.now) limit result into.new.items }

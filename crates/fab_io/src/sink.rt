@@ -1,3 +1,4 @@
+//! Places for bytes: what a put appends, and what it does to the count of faults.
 ghost use Rattle.std.specs.Prelude.{◌≡◌, ◌≤◌, [], ℕ, List, Option, Ok};
 ghost use Rattle.fab_io.specs.Sink.{Puts, CountsPut};
 
@@ -23,7 +24,7 @@ pub trait Sink {
     /// A count that never falls, and rises where a put fails.
     ghost faults: { Self → ℕ };
 
-    /// Appends a piece. An empty one changes nothing.
+    /// Appends a piece. An empty one changes nothing. Time: the bytes of the piece.
     fn put(&mut self, piece: &[u8]) -> Result<(), PutFault>
         ensures bytes { Puts piece.now (told self.old) (told self.new) result }
         ensures nothing { piece.now ≡ [] → (result ≡ Ok tt) × (self.new ≡ self.old) }

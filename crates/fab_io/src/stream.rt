@@ -1,3 +1,4 @@
+//! A sink over a writer, as standard output.
 ghost use Rattle.std.specs.Prelude.{◌≡◌, ◌≤◌, [], ℕ, None, Ok, OnOk, take};
 ghost use Rattle.std.specs.Io.KnownBytes.{Appends};
 ghost use Rattle.fab_io.specs.Sink.{Puts, CountsPut};
@@ -7,7 +8,7 @@ use std::io;
 use std::io::{ErrorKind, Write};
 
 /// A sink over any writer of std. As a sink it tells nothing of what was put. Its count of faults rises at
-/// each error.
+/// each error. Each put is written whole and flushed before it answers, and takes no memory.
 #[derive(Drop)]
 pub struct StreamSink<W: Write + Drop> {
     writer: W,

@@ -1,3 +1,4 @@
+//! Shelves and sinks in memory once each, real files, and readers and writers that fail in mid-stream.
 ghost use Rattle.std.specs.Prelude.{◌≤◌};
 
 use super::*;
@@ -80,71 +81,30 @@ fn put_words<S: Sink>(sink: &mut S) -> Result<(), PutFault> {
     sink.put(b"two")
 }
 
-fn shelf_of_two(alloc: Global) -> Result<MemoryShelf, AllocError> {
-    let mut shelf = MemoryShelf::new(alloc);
-    shelf.add("a", b"old")?;
-    shelf.add("b", b"")?;
-    shelf.add("a", b"newer")?;
-    Ok(shelf)
-}
-
 #[test]
-fn fetches_the_newest_content(rt: HostRuntime) -> Result<(), Fail> {
-    let mut shelf = shelf_of_two(rt.alloc())?;
+fn fetches_from_memory(rt: HostRuntime) -> Result<(), Fail> {
+    let mut shelf = MemoryShelf::new(rt.alloc());
+    shelf.add("a", b"old")?;
+    shelf.add("a", b"newer")?;
+    shelf.fail(3)?;
     let mut into = b"rest".to_vec(rt.alloc())?;
     assert!(rt; fetched(&mut shelf, "a", 5, &mut into)?);
     assert_eq!(rt; into.as_slice(), b"newer".as_slice());
     assert!(rt; !fetched(&mut shelf, "a", 4, &mut into)?);
-    assert!(rt; into.is_empty());
-    into.push(b'x')?;
-    assert!(rt; fetched(&mut shelf, "b", 0, &mut into)?);
-    assert!(rt; into.is_empty());
-    into.push(b'x')?;
-    assert!(rt;
-        matches!(
-            fetched(&mut shelf, "c", 9, &mut into),
-            Err(FetchFault::Failed)
-        )
-    );
-    assert!(rt; into.is_empty());
-    Ok(())
-}
-
-#[test]
-fn fails_the_named_fetches(rt: HostRuntime) -> Result<(), Fail> {
-    let mut shelf = shelf_of_two(rt.alloc())?;
-    shelf.fail(4)?;
-    shelf.fail(2)?;
-    let mut into = Vec::new(rt.alloc());
-    let mut failed = Vec::new(rt.alloc());
-    for (call, name) in [(1, "c"), (2, "a"), (3, "a"), (4, "b"), (5, "b")] {
-        if fetched(&mut shelf, name, 9, &mut into).is_err() {
-            failed.push(call)?;
-        }
+    for name in ["a", "c"] {
+        let fetch = fetched(&mut shelf, name, 5, &mut into);
+        assert!(rt; matches!(fetch, Err(FetchFault::Failed)), "{name}");
     }
-    assert_eq!(rt; failed.as_slice(), [1, 2, 4].as_slice());
     Ok(())
 }
 
 #[test]
-fn keeps_what_was_put(rt: HostRuntime) -> Result<(), Fail> {
+fn puts_to_memory(rt: HostRuntime) -> Result<(), Fail> {
     let mut sink = MemorySink::new(rt.alloc());
-    put_words(&mut sink)?;
-    assert_eq!(rt; sink.bytes(), b"one two".as_slice());
-    Ok(())
-}
-
-#[test]
-fn fails_the_named_puts(rt: HostRuntime) -> Result<(), Fail> {
-    let mut sink = MemorySink::new(rt.alloc());
-    sink.fail(2, 9)?;
     sink.fail(2, 1)?;
-    sink.fail(4, 9)?;
     assert!(rt; matches!(put_words(&mut sink), Err(PutFault::Failed)));
-    assert_eq!(rt; sink.bytes(), b"one t".as_slice());
-    sink.put(b".")?;
-    assert!(rt; matches!(sink.put(b"end"), Err(PutFault::Failed)));
-    assert_eq!(rt; sink.bytes(), b"one t.end".as_slice());
+    put_words(&mut sink)?;
+    assert_eq!(rt; sink.bytes(), b"one tone two".as_slice());
     Ok(())
 }
 
@@ -185,7 +145,7 @@ fn fetches_from_readers(rt: HostRuntime) -> Result<(), Fail> {
 }
 
 #[test]
-fn puts_to_a_halting_stream(rt: HostRuntime) -> Result<(), Fail> {
+fn puts_to_streams(rt: HostRuntime) -> Result<(), Fail> {
     // four bytes and a flush for `one `, then four calls for `two`
     for (calls, taken) in [(9, "one two"), (8, "one "), (5, "one "), (4, ""), (2, "")] {
         let mut stream = Halting::new(rt.alloc(), calls);
@@ -195,16 +155,6 @@ fn puts_to_a_halting_stream(rt: HostRuntime) -> Result<(), Fail> {
         drop(sink);
         assert_eq!(rt; stream.taken.as_slice(), taken.as_bytes(), "{calls}");
     }
-    Ok(())
-}
-
-#[test]
-fn puts_to_a_stream(rt: HostRuntime) -> Result<(), Fail> {
-    let mut bytes = Vec::new(rt.alloc());
-    let mut sink = StreamSink::new(&mut bytes);
-    put_words(&mut sink)?;
-    drop(sink);
-    assert_eq!(rt; bytes.as_slice(), b"one two".as_slice());
     StreamSink::new(rt.stdout()).put(b"")?;
     Ok(())
 }

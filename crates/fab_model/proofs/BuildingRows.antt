@@ -1,8 +1,7 @@
 -- The rows that single records make, and the lists of them.
-use Rattle.std.proofs.Common.{◌≡◌, ℕ, ◌≤◌, List, length, take, map, filter, ltb, refl, sym, ap, subst, ◌∙◌, arith}
+use Rattle.std.proofs.Common.{◌≡◌, ℕ, ◌≤◌, List, length, take, map, filter, ltb, refl, sym, ap, ◌∙◌, arith}
 use Rattle.std.proofs.lemmas.List.{take_all, length-map}
 use Rattle.std.proofs.lemmas.List.Sums.{length-filter, count_by-le-length}
-use Rattle.std.specs.List.Sorted.{IsNonDecreasingBy}
 use denote.Enum.Bare.{sameb}
 use Rattle.fab_model.specs.contracts.raw.NodeKind.{the_type}
 use Rattle.fab_model.specs.declared.raw.NodeKind.{NodeKind}
@@ -13,7 +12,7 @@ use Rattle.fab_model.specs.declared.rows.AdapterRow.{AdapterRow}
 use Rattle.fab_model.specs.InOrder.{in_order}
 use Rattle.fab_model.specs.Records.{Records, is_switch, is_adapter}
 use Rattle.fab_model.specs.Built as build
-use Rattle.fab_model.proofs.Sorted.{map-in_order, IsNonDecreasingBy-in_order}
+use Rattle.fab_model.proofs.Sorted.{map-in_order}
 use Rattle.fab_model.proofs.Order.{length-in_order}
 use Rattle.fab_model.specs.Topology.{lid_id}
 
@@ -43,18 +42,6 @@ pub adapter_rows-sorted : (records : Records) (made rows : List AdapterRow) (n :
 adapter_rows-sorted records made rows n all is sorted =
     sorted ∙ ap (in_order (λ x y. ltb x.guid y.guid)) (is ∙ ap (λ nodes. map adapter_row (filter (λ node. is_adapter node.kind) nodes)) (take_all n records.nodes all))
     ∙ sym (map-in_order adapter_row build.by_guid (λ x y. ltb x.guid y.guid) (λ a b. refl) (filter (λ node. is_adapter node.kind) records.nodes))
-
--- ---- the switches and adapters stand by GUID
-
-pub switch_rows-rise : (records : Records) → IsNonDecreasingBy (λ row. row.guid) (build.switch_rows records)
-switch_rows-rise records =
-    subst (IsNonDecreasingBy (λ (row : SwitchRow). row.guid)) (sym (map-in_order switch_row build.by_guid (λ x y. ltb x.guid y.guid) (λ a b. refl) (filter (λ node. is_switch node.kind) records.nodes)))
-    (IsNonDecreasingBy-in_order (λ row. row.guid) (map switch_row (filter (λ node. is_switch node.kind) records.nodes)))
-
-pub adapter_rows-rise : (records : Records) → IsNonDecreasingBy (λ row. row.guid) (build.adapter_rows records)
-adapter_rows-rise records =
-    subst (IsNonDecreasingBy (λ (row : AdapterRow). row.guid)) (sym (map-in_order adapter_row build.by_guid (λ x y. ltb x.guid y.guid) (λ a b. refl) (filter (λ node. is_adapter node.kind) records.nodes)))
-    (IsNonDecreasingBy-in_order (λ row. row.guid) (map adapter_row (filter (λ node. is_adapter node.kind) records.nodes)))
 
 pub switch_rows-count : (records : Records) → length (build.switch_rows records) ≤ length records.nodes
 switch_rows-count records = grind (arith, length-map, length-in_order, length-filter, count_by-le-length)

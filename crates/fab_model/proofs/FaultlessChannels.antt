@@ -16,7 +16,7 @@ use Rattle.fab_model.proofs.FaultlessNodes.{switch_number_within, same_switch, p
 
 -- ---- the order of channels
 
-goes_from_test : (x y : ChannelRow) → by_tail x y ≡ true → GoesBefore x y
+pub goes_from_test : (x y : ChannelRow) → by_tail x y ≡ true → GoesBefore x y
 goes_from_test x y passes =
     elim (or_cases (nat_lt x.tail.0 y.tail.0) (x.tail.0 == y.tail.0 && nat_lt x.port y.port) passes) [
       | inl less ↦ inl (ltb-true x.tail.0 y.tail.0 less)
@@ -37,10 +37,10 @@ goes_along x y z (inl less) (inr both) = inl (omega (arith, both.0))
 goes_along x y z (inr both) (inl more) = inl (omega (arith, both.0))
 goes_along x y z (inr both) (inr and) = inr (both.0 ∙ and.0, omega (arith, both.1, and.1))
 
-by_tail_along : (x y z : ChannelRow) → by_tail x y ≡ true → by_tail y z ≡ true → by_tail x z ≡ true
+pub by_tail_along : (x y z : ChannelRow) → by_tail x y ≡ true → by_tail y z ≡ true → by_tail x z ≡ true
 by_tail_along x y z one other = test_from_goes x z (goes_along x y z (goes_from_test x y one) (goes_from_test y z other))
 
-channels_apart : (x y : ChannelRow) → (x.tail.0 ≡ y.tail.0 → x.port ≢ y.port) → AreApart by_tail x y
+pub channels_apart : (x y : ChannelRow) → (x.tail.0 ≡ y.tail.0 → x.port ≢ y.port) → AreApart by_tail x y
 channels_apart x y apart =
     elim (cases_order x.tail.0 y.tail.0) [
       | inr (inl less) ↦ inl (test_from_goes x y (inl less))

@@ -1,8 +1,9 @@
 -- Rows that are found where they stand.
-use Rattle.std.proofs.Common.{◌≡◌, ◌≢◌, ℕ, ◌+◌, ◌<◌, ◌≤◌, Bool, true, false, eqb, ltb, cond, List, [], ◌∷◌, length, get_or, Some, None, inl, inr, refl, sym, ap, ◌∙◌, arith}
+use Rattle.std.proofs.Common.{◌≡◌, ◌≢◌, ℕ, ◌+◌, ◌<◌, ◌≤◌, Bool, true, false, eqb, ltb, cond, List, [], ◌∷◌, length, get_or, Some, None, Result, Ok, Err, inl, inr, refl, sym, ap, ◌∙◌, arith}
 use Rattle.std.specs.Prelude.{AllPairs, Contains, position, slice_get}
-use Rattle.std.specs.List.{HoldsAt, AllWithin}
-use Rattle.std.specs.List.Sorted.{IsNonDecreasingBy}
+use Rattle.std.specs.List.{HoldsAt, AllWithin, position_or_len}
+use Rattle.std.specs.List.Sorted.{IsNonDecreasingBy, IsBinarySearchResult, IsSearchInRange}
+use Rattle.std.specs.Result.{result_unwrap_or}
 use Rattle.std.specs.Ordering.{ordering_index, nat_cmp}
 use Rattle.std.specs.declared.cmp.Ordering.TheVariants.{Less, Equal, Greater}
 use Rattle.std.proofs.lemmas.Bool.{cases_lt, and_parts, and_from, eq-eqb, ne_eqb, eqb-true, lt-ltb, le-ltb, false_from_ne_true}
@@ -87,24 +88,47 @@ greater_differs a b e = λ same. grind (arith, nat_tests)
 index_le : (a b guid : ℕ) → a ≤ b → ordering_index (nat_cmp a guid) ≤ ordering_index (nat_cmp b guid)
 index_le a b guid le = grind (arith, nat_tests)
 
+-- rows by an ascending key, of any kind
+module _ {X : Type 0} (key : X → ℕ) (sought : ℕ) where
+  pub number_found : (rows : List X) (place : ℕ) → AllPairs (λ first second. key first < key second) rows → place < length rows → HoldsAt (λ row. nat_cmp (key row) sought ≡ Equal) rows place → position_or_len (λ row. eqb (key row) sought) rows ≡ place
+  number_found [] place rise h at = absurd (omega arith)
+  number_found (first ∷ rest) place rise h at =
+      let rows = first ∷ rest in
+      let here : key (get_or rows place first) ≡ sought = equal_from_cmp (key (get_or rows place first)) sought (at first) in
+      position_or_len_is (λ row. eqb (key row) sought) rows place first (omega arith)
+      (λ k lt. ne_eqb (key (get_or rows k first)) sought (λ e. omega (arith, e, here, rise k place first lt h)))
+      (λ _. eq-eqb (key (get_or rows place first)) sought here)
+
+  indexes_rise : (rows : List X) → AllPairs (λ first second. key first < key second) rows → IsNonDecreasingBy (λ row. ordering_index (nat_cmp (key row) sought)) rows
+  indexes_rise rows rise = λ i j d le lt.
+      elim (cases_lt i j) [
+        | inl below ↦ index_le (key (get_or rows i d)) (key (get_or rows j d)) sought (omega (arith, rise i j d below lt))
+        | inr ge ↦ let same : i ≡ j = omega arith in rw same (omega arith)
+      ]
+
+  pub number_missing : (rows : List X) (place : ℕ) → AllPairs (λ first second. key first < key second) rows → place ≤ length rows → (IsNonDecreasingBy (λ row. ordering_index (nat_cmp (key row) sought)) rows → AllWithin (λ row. nat_cmp (key row) sought ≡ Less) rows 0 place × AllWithin (λ row. nat_cmp (key row) sought ≡ Greater) rows place (length rows)) → position_or_len (λ row. eqb (key row) sought) rows ≡ length rows
+  number_missing [] place rise h parts = refl
+  number_missing (first ∷ rest) place rise h parts =
+      let rows = first ∷ rest in
+      let both = parts (indexes_rise rows rise) in
+      position_or_len_is (λ row. eqb (key row) sought) rows (length rows) first (omega arith)
+      (λ k lt. elim (cases_lt k place) [
+        | inl low ↦ ne_eqb (key (get_or rows k first)) sought (less_differs (key (get_or rows k first)) sought (both.0 k first (omega arith) low))
+        | inr high ↦ ne_eqb (key (get_or rows k first)) sought (greater_differs (key (get_or rows k first)) sought (both.1 k first high lt))
+      ])
+      (λ lt. absurd (omega arith))
+
+  -- what the search for a key answers, with the count of the rows where no row has it
+  pub number_given : (rows : List X) (found : Result ℕ ℕ) → AllPairs (λ first second. key first < key second) rows → IsSearchInRange found (length rows) → IsBinarySearchResult (λ row. nat_cmp (key row) sought) rows found → result_unwrap_or found (length rows) ≡ position_or_len (λ row. eqb (key row) sought) rows
+  number_given rows (Ok place) rise h at = sym (number_found rows place rise h at)
+  number_given rows (Err place) rise h parts = sym (number_missing rows place rise h parts)
+
 pub guid_found : (rows : List SwitchRow) (guid place : ℕ) → AllPairs (λ first second. first.guid < second.guid) rows → place < length rows → HoldsAt (λ row. nat_cmp row.guid guid ≡ Equal) rows place → position (λ row. eqb row.guid guid) rows ≡ Some place
-guid_found [] guid place rise h at = absurd (omega arith)
-guid_found (first ∷ rest) guid place rise h at =
-    let rows = first ∷ rest in
-    let here : (get_or rows place first).guid ≡ guid = equal_from_cmp (get_or rows place first).guid guid (at first) in
-    position_is (λ row. eqb row.guid guid) rows place first h (eq-eqb (get_or rows place first).guid guid here)
-    (λ k lt. ne_eqb (get_or rows k first).guid guid (λ e. omega (arith, e, here, rise k place first lt h)))
+guid_found rows guid place rise h at =
+    let number = number_found (λ (row : SwitchRow). row.guid) guid rows place rise h at in
+    rw (number, lt-ltb place (length rows) h)
 
 pub guid_missing : (rows : List SwitchRow) (guid place : ℕ) → AllPairs (λ first second. first.guid < second.guid) rows → place ≤ length rows → (IsNonDecreasingBy (λ row. ordering_index (nat_cmp row.guid guid)) rows → AllWithin (λ row. nat_cmp row.guid guid ≡ Less) rows 0 place × AllWithin (λ row. nat_cmp row.guid guid ≡ Greater) rows place (length rows)) → position (λ row. eqb row.guid guid) rows ≡ None
 guid_missing rows guid place rise h parts =
-    let ordered : IsNonDecreasingBy (λ (row : SwitchRow). ordering_index (nat_cmp row.guid guid)) rows = λ i j d le lt.
-    elim (cases_lt i j) [
-      | inl below ↦ index_le (get_or rows i d).guid (get_or rows j d).guid guid (omega (arith, rise i j d below lt))
-      | inr ge ↦ let same : i ≡ j = omega arith in rw same (omega arith)
-    ] in
-    let both = parts ordered in
-    position_none (λ row. eqb row.guid guid) rows (λ k d lt.
-    elim (cases_lt k place) [
-      | inl low ↦ ne_eqb (get_or rows k d).guid guid (less_differs (get_or rows k d).guid guid (both.0 k d (omega arith) low))
-      | inr high ↦ ne_eqb (get_or rows k d).guid guid (greater_differs (get_or rows k d).guid guid (both.1 k d high lt))
-    ])
+    let number = number_missing (λ (row : SwitchRow). row.guid) guid rows place rise h parts in
+    rw (number, le-ltb (length rows) (length rows) (omega arith))

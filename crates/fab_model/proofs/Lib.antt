@@ -1,4 +1,6 @@
 pub mod Cables
+pub mod Channels
+pub mod FlatMaps
 pub mod Examples
 pub mod Finds
 pub mod Lids

@@ -87,18 +87,6 @@ module _ {X : Type 0} (lt : X → X → Bool) (order : IsStrictWeakOrder lt) whe
   pub rises_from_sorted : (ys : List X) → IsSortedBy lt ys → Rises ys
   rises_from_sorted ys sorted = rises_at ys (sorted_far lt order ys sorted)
 
-  NoneBefore-get_or : (x : X) (ys : List X) (j : ℕ) (d : X) → NoneBefore x ys → j < length ys → lt (get_or ys j d) x ≡ false
-  NoneBefore-get_or x [] j d h below = absurd (omega arith)
-  NoneBefore-get_or x (y ∷ ys) zero d h below = h.0
-  NoneBefore-get_or x (y ∷ ys) (suc j) d h below = NoneBefore-get_or x ys j d h.1 (omega arith)
-
-  pub rises_far : (ys : List X) → Rises ys → (i j : ℕ) (d : X) → i ≤ j → j < length ys → lt (get_or ys j d) (get_or ys i d) ≡ false
-  rises_far [] h i j d le below = absurd (omega arith)
-  rises_far (y ∷ ys) h zero zero d le below = not_itself (lt y y) (order.one_way y y)
-  rises_far (y ∷ ys) h zero (suc j) d le below = NoneBefore-get_or y ys j d h.0 (omega arith)
-  rises_far (y ∷ ys) h (suc i) zero d le below = absurd (omega arith)
-  rises_far (y ∷ ys) h (suc i) (suc j) d le below = rises_far ys h.1 i j d (omega arith) (omega arith)
-
   NoneBefore-insert : (x c : X) (ds : List X) → lt c x ≡ false → NoneBefore x ds → NoneBefore x (insert_in_order lt c ds)
   NoneBefore-insert x c [] first h = (first, tt)
   NoneBefore-insert x c (d ∷ ds) first h =
@@ -187,10 +175,3 @@ is_lt-nat a b = grind (arith, nat_tests)
 
 pub in_order-by_number : {X : Type 0} (key : X → ℕ) (xs ys : List X) → IsSortedByKey key nat_cmp ys → IsStableByKey key nat_cmp xs ys → ys ≡ in_order (λ x y. ltb (key x) (key y)) xs
 in_order-by_number key = in_order-by_key nat_cmp_total key (λ x y. ltb (key x) (key y)) (λ a b. is_lt-nat (key a) (key b))
-
--- a list in order by a number
-pub IsNonDecreasingBy-in_order : {X : Type 0} (key : X → ℕ) (xs : List X) → IsNonDecreasingBy key (in_order (λ x y. ltb (key x) (key y)) xs)
-IsNonDecreasingBy-in_order key xs i j d le below =
-    let less = λ (x : _) (y : _). ltb (key x) (key y) in
-    let order = IsStrictWeakOrder-by_number key in
-    ltb-false _ _ (rises_far less order (in_order less xs) (Rises-in_order less order xs) i j d le below)

@@ -1,6 +1,6 @@
 -- Cables taken out of a fabric.
-use Rattle.std.proofs.Common.{◌≡◌, ◌≢◌, ℕ, zero, suc, ◌<◌, ◌≤◌, Bool, true, false, not, ◌||◌, List, [], ◌∷◌, length, get_or, inl, inr, refl, ap, ◌∙◌, arith}
-use Rattle.std.specs.Prelude.{Contains, filter}
+use Rattle.std.proofs.Common.{◌≡◌, ◌≢◌, ℕ, zero, suc, ◌<◌, ◌≤◌, Bool, true, false, not, ◌||◌, List, [], ◌∷◌, length, get_or, Option, None, Some, Ok, inl, inr, refl, ap, subst, ◌∙◌, arith}
+use Rattle.std.specs.Prelude.{Contains, filter, position}
 use Rattle.std.proofs.lemmas.Bool.{cases_Bool}
 use Rattle.std.proofs.lemmas.List.Elements.{All-filter, filter_passes}
 use Rattle.std.proofs.lemmas.List.Kept.{AllPairs-filter}
@@ -8,10 +8,10 @@ use Rattle.std.proofs.lemmas.List.Sums.{length-filter, count_by-le-length}
 use Rattle.fab_model.specs.declared.rows.ChannelRow.{ChannelRow}
 use Rattle.fab_model.specs.declared.rows.TerminalRow.{TerminalRow}
 use Rattle.fab_model.specs.declared.rows.Cable.{Cable}
-use Rattle.fab_model.specs.Topology.{Topology, ports_of, reversed}
+use Rattle.fab_model.specs.Topology.{Topology, HasNoOwnCable, ports_of, reversed}
 use Rattle.fab_model.specs.WellFormed.{GoesBefore, IsPort}
-use Rattle.fab_model.specs.Without.{leaves_named, is_listed}
-use Rattle.fab_model.specs.Laws.{WithoutIsFabric}
+use Rattle.fab_model.specs.Without.{leaves_named, is_listed, is_unknown, unless_unknown, without_cables}
+use Rattle.fab_model.specs.Laws.{WithoutIsFabric, WithoutKeepsNoOwnCable}
 
 -- ---- what is left is a fabric
 
@@ -90,3 +90,14 @@ without_is_fabric fabric cables are =
         no_channel_there = λ k d h. All-filter keeps (apart (get_or fabric.terminals k d)) fabric.channels (rows.no_channel_there k d h);
       };
     }
+
+-- ---- and no cable comes from taking others out
+
+made_is : {X : Type 0} (unknown : Option ℕ) (wanted made : X) → unless_unknown unknown wanted ≡ Ok made → wanted ≡ made
+made_is None wanted made e = cc
+made_is (Some index) wanted made e = cc
+
+pub without_keeps_no_own_cable : WithoutKeepsNoOwnCable
+without_keeps_no_own_cable fabric made cables e none =
+    let left : HasNoOwnCable (without_cables fabric cables) = All-filter (λ (row : ChannelRow). not (is_listed fabric cables row)) (λ row. row.tail.0 ≢ row.tip.0) fabric.channels none in
+    subst HasNoOwnCable (made_is (position (is_unknown fabric) cables) (without_cables fabric cables) made e) left

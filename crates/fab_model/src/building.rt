@@ -1,6 +1,8 @@
-// The rows of records without a fault.
-ghost use Rattle.std.specs.Prelude.{◌≡◌, ◌<◌, ◌≤◌, ◌^◌, ◌&&◌, None, IfOk, OnOk, length};
-ghost use Rattle.std.specs.List.Sorted.{IsNonDecreasingBy};
+//! The rows of records without a fault: nodes of each kind by GUID, channels by tail and out port, terminals by
+//! LID. Each list is filled in file order and then sorted, and the nodes at the ends of a link are found by
+//! halving: for n records, O(n log n) time, and memory in the rows.
+ghost use Rattle.std.specs.Prelude.{◌≡◌, ◌<◌, ◌≤◌, ◌^◌, ◌&&◌, ℕ, None, IfOk, OnOk, AllPairs, length};
+ghost use Rattle.std.specs.Fn.{ComputesKey};
 ghost use Rattle.fab_model.specs.Faults.{first_fault};
 ghost use Rattle.fab_model.specs.Built as build;
 ghost use Rattle.fab_model.specs.Records.{AreRecords, is_switch};
@@ -79,32 +81,15 @@ fn adapter_rows(alloc: Global, raw: &Raw) -> Result<Vec<AdapterRow>, AllocError>
     Ok(rows)
 }
 
-/// The number of the switch with a GUID, or the count of the switches where none has it.
-fn switch_number(rows: &[SwitchRow], guid: u64) -> usize
-    requires { IsNonDecreasingBy (λ (row : SwitchRow). row.guid) rows.now }
-    ensures number { result ≡ build.switch_number rows.now guid }
+/// The number of the row with a GUID, in rows by ascending GUID, or their count where none has it. It takes
+/// logarithmic time.
+fn number_by_guid<R, F: FnMut(&R) -> u64>(rows: &[R], guid: u64, guid_of: F) -> usize
+    requires { F.IsAlwaysCallable guid_of }
+    ensures number { (key : R → ℕ) → ComputesKey F.FnMut key guid_of → AllPairs (λ first second. key first < key second) rows.now → result ≡ build.number_of key rows.now guid }
     ensures within { result ≤ length rows.now }
 {
-    let place = rows.partition_point(|row| row.guid < guid);
-    if place < rows.len() && rows[place].guid == guid {
-        place
-    } else {
-        rows.len()
-    }
-}
-
-/// The number of the adapter with a GUID, or the count of the adapters where none has it.
-fn adapter_number(rows: &[AdapterRow], guid: u64) -> usize
-    requires { IsNonDecreasingBy (λ (row : AdapterRow). row.guid) rows.now }
-    ensures number { result ≡ build.adapter_number rows.now guid }
-    ensures within { result ≤ length rows.now }
-{
-    let place = rows.partition_point(|row| row.guid < guid);
-    if place < rows.len() && rows[place].guid == guid {
-        place
-    } else {
-        rows.len()
-    }
+    rows.binary_search_by_key(&guid, guid_of)
+        .unwrap_or(rows.len())
 }
 
 /// Whether a link stands under a switch and leads to one.
@@ -116,16 +101,16 @@ fn joins_switches(node: &RawNode, link: &RawLink) -> bool
 
 /// The channel that a link between two switches states.
 fn channel_row(switches: &[SwitchRow], node: &RawNode, link: &RawLink) -> ChannelRow
-    requires rise { IsNonDecreasingBy (λ (row : SwitchRow). row.guid) switches.now }
+    requires rise { AllPairs (λ (first second : SwitchRow). first.guid < second.guid) switches.now }
     requires count { length switches.now < 2 ^ 32 }
     requires port { link.now.port < 2 ^ 8 }
     requires far_port { link.now.far_port < 2 ^ 8 }
     ensures { result ≡ build.channel_row switches.now (record { node = node.now; link = link.now }) }
 {
     ChannelRow {
-        tail: SwitchId(switch_number(switches, node.guid) as u32),
+        tail: SwitchId(number_by_guid(switches, node.guid, |row| row.guid) as u32),
         port: link.port as u8,
-        tip: SwitchId(switch_number(switches, link.far_guid) as u32),
+        tip: SwitchId(number_by_guid(switches, link.far_guid, |row| row.guid) as u32),
         tip_port: link.far_port as u8,
     }
 }
@@ -159,8 +144,8 @@ fn terminal_row(
     node: &RawNode,
     link: &RawLink,
 ) -> TerminalRow
-    requires switches_rise { IsNonDecreasingBy (λ (row : SwitchRow). row.guid) switches.now }
-    requires adapters_rise { IsNonDecreasingBy (λ (row : AdapterRow). row.guid) adapters.now }
+    requires switches_rise { AllPairs (λ (first second : SwitchRow). first.guid < second.guid) switches.now }
+    requires adapters_rise { AllPairs (λ (first second : AdapterRow). first.guid < second.guid) adapters.now }
     requires switch_count { length switches.now < 2 ^ 32 }
     requires adapter_count { length adapters.now < 2 ^ 32 }
     requires lid { link.now.lid < 2 ^ 16 }
@@ -170,9 +155,9 @@ fn terminal_row(
 {
     TerminalRow {
         lid: Lid(link.lid as u16),
-        switch: SwitchId(switch_number(switches, link.far_guid) as u32),
+        switch: SwitchId(number_by_guid(switches, link.far_guid, |row| row.guid) as u32),
         port: link.far_port as u8,
-        adapter: adapter_number(adapters, node.guid) as u32,
+        adapter: number_by_guid(adapters, node.guid, |row| row.guid) as u32,
         adapter_port: link.port as u8,
         port_guid: link.port_guid,
     }

@@ -76,8 +76,11 @@ impl Fabric {
         )
     }
 
-    /// The fabric of rows that are one.
-    pub(crate) fn of_rows(
+    /// The fabric of rows that are one: for a generator, which makes rows. Switches and adapters stand by
+    /// ascending GUID, channels by tail and out port, each with its reverse, and terminals by ascending LID.
+    /// The error is want of memory. It takes 512 cells a switch and one for each number of 16 bits, and the time
+    /// to fill them: O(switches log channels + channels + terminals + 65,536).
+    pub fn of_rows(
         alloc: Global,
         switches: Vec<SwitchRow>,
         adapters: Vec<AdapterRow>,

@@ -16,7 +16,7 @@ mod tests;
 pub use desc::Desc;
 pub use fabric::Fabric;
 pub use fault::{FabricFault, WithoutFault};
-pub use laws::{faultless_make, well_formed_make_themselves};
+pub use laws::{faultless_make, well_formed_make_themselves, without_keeps_no_own_cable};
 pub use raw::{NodeKind, Raw, RawLink, RawNode};
 pub use rows::{
     AdapterRow, Cable, ChannelId, ChannelRow, Lid, Place, SwitchId, SwitchRow, TerminalId,

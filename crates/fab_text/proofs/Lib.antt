@@ -1,4 +1,7 @@
-pub mod Examples
 pub mod Numbers
-pub mod LinesMet
 pub mod Written
+pub mod Spelled
+pub mod SpelledFields
+pub mod LinesMet
+pub mod Words
+pub mod Examples

@@ -1,3 +1,7 @@
+//! What stands in a text from a place on: its line, its next word, a number, a part in quotes.
+//!
+//! A line ends before a line feed, and before one carriage return in front of that; words are parted by spaces
+//! and tabs. Each call passes over the bytes that it reads once, and takes no memory.
 ghost use Rattle.std.specs.Prelude.{◌≡◌, ◌+◌, ◌*◌, ◌≤◌, IfSome, IfNone, ◌<◌, ◌^◌, length, not, None, Some, option_map, nat_lt, if◌then◌else◌, ◌==◌};
 ghost use Rattle.std.specs.List.{prefix_len, list_any, before_last};
 ghost use Rattle.std.specs.Char.{digit_value, is_digit};
@@ -26,7 +30,8 @@ pub struct Span {
     pub end: usize,
 }
 
-fn is_blank(byte: u8) -> bool
+/// Whether a byte parts words: a space or a tab.
+pub fn is_blank(byte: u8) -> bool
     ensures { result ≡ is_blank byte }
 {
     byte == b' ' || byte == b'\t'
@@ -64,7 +69,7 @@ fn without_return(line: &[u8]) -> &[u8]
 }
 
 /// The line that begins at a place, none from the end of the text on. It ends before the next line feed, and
-/// before one carriage return that stands there too, or at the end of the text.
+/// before one carriage return that stands there too, or at the end of the text. Time: the bytes of the line.
 pub fn next_line(text: &[u8], from: usize) -> Option<Line>
     ensures line { result ≡ line_at text.now from }
     ensures within { IfSome result (LiesWithin text.now from) }
@@ -91,6 +96,7 @@ pub fn next_line(text: &[u8], from: usize) -> Option<Line>
 }
 
 /// The next run of bytes that are neither a space nor a tab, from a place on; none where no such byte is left.
+/// Time: the bytes up to its end.
 pub fn word(line: &[u8], from: usize) -> Option<Span>
     ensures part { result ≡ word_at line.now from }
     ensures within { IfSome result (λ part. (part.start ≤ part.end) × (part.end ≤ length line.now)) }
@@ -111,7 +117,8 @@ pub fn word(line: &[u8], from: usize) -> Option<Span>
     })
 }
 
-/// The bytes between the quote at a place and the next quote, none where either is missing.
+/// The bytes between the quote at a place and the next quote, none where either is missing. Time: the bytes
+/// up to that quote.
 pub fn read_quoted(line: &[u8], from: usize) -> Option<Span>
     ensures part { result ≡ quoted_at line.now from }
     ensures within { IfSome result (λ part. (part.start ≤ part.end) × (part.end ≤ length line.now)) }
@@ -178,7 +185,7 @@ fn spelled(base: u8, digits: &[u8]) -> Option<u64>
 }
 
 /// The number of the longest run of decimal digits at a place, zeros in front included, and the place after
-/// it. None where no digit stands there, or the number passes a u64.
+/// it. None where no digit stands there, or the number passes a u64. Time: the digits.
 pub fn read_dec(line: &[u8], from: usize) -> Option<(u64, usize)>
     ensures number { result ≡ dec_at line.now from }
     ensures within { IfSome result (λ found. (from < found.1) × (found.1 ≤ length line.now)) }
@@ -211,7 +218,8 @@ fn before_last_quote(bytes: &[u8]) -> Option<&[u8]>
     None
 }
 
-/// The bytes between the quote at a place and the last quote of the line, none where either is missing.
+/// The bytes between the quote at a place and the last quote of the line, none where either is missing. Time:
+/// the bytes behind the last quote.
 pub fn read_desc(line: &[u8], from: usize) -> Option<Span>
     ensures part { result ≡ desc_at line.now from }
     ensures within { IfSome result (λ part. (part.start ≤ part.end) × (part.end ≤ length line.now)) }
@@ -231,7 +239,7 @@ pub fn read_desc(line: &[u8], from: usize) -> Option<Span>
 }
 
 /// The number of the longest run of hexadecimal digits at a place, of either case, and the place after it.
-/// None where no digit stands there, or more than 16 do.
+/// None where no digit stands there, or more than 16 do. Time: the digits.
 #[tactic(auto, using(crate::proofs::Numbers::hex_fits))]
 pub fn read_hex(line: &[u8], from: usize) -> Option<(u64, usize)>
     ensures number { result ≡ hex_at line.now from }

@@ -1,3 +1,7 @@
+//! Numbers as digits, appended to a text.
+//!
+//! The digits are made in a buffer of fixed size and appended at once, so that a call that is refused memory
+//! leaves the text as it was. Time and memory: the digits.
 ghost use Rattle.std.specs.Prelude.{◌≡◌, ◌+◌, ◌<◌, ◌≤◌, ◌++◌, length, OnOk, OnErr, decimal, false};
 ghost use Rattle.std.specs.Fmt.{digit_glyph};
 ghost use Rattle.fab_text.specs.Digits.{last_digits};

@@ -49,10 +49,9 @@ impl Fabric {
 
     /// The channel that leaves the named switch by the named port.
     fn named_channel(&self, cable: &Cable) -> Option<ChannelId>
+        requires { IsFabric self.now }
         ensures { result ≡ option_map channel_id (named_channel self.now cable.now) }
     {
-        // Tells what a fabric keeps.
-        let _ = &self.channels;
         let switch = self.switch_of(cable.guid)?;
         let port = u8::try_from(cable.port).ok()?;
         self.channel_at(switch, port)

@@ -1,5 +1,6 @@
 use Rattle.std.proofs.Common.{◌≤◌, length, true, false, sym, ap, ◌∙◌, subst, arith, rules, append-nil, ℕ}
-use Rattle.std.specs.List.Sorted.{IsNonDecreasingBy}
+use Rattle.std.specs.Prelude.{◌<◌, AllPairs}
+use Rattle.fab_model.proofs.BuildingNumbers.{switches_rise}
 use Rattle.fab_model.specs.declared.rows.SwitchRow.{SwitchRow}
 use Rattle.fab_model.specs.declared.rows.ChannelRow.{ChannelRow}
 use Rattle.fab_model.specs.declared.rows.SwitchId.{SwitchId}
@@ -9,7 +10,7 @@ use Rattle.fab_model.proofs.Sorted.{in_order-by_key}
 use Rattle.fab_model.specs.Faults.{port_limit}
 use Rattle.fab_model.specs.Built as build
 use Rattle.fab_model.proofs.BuildingBounds.{small_ports, far_ports}
-use Rattle.fab_model.proofs.BuildingRows.{switch_rows-rise, switch_rows-count}
+use Rattle.fab_model.proofs.BuildingRows.{switch_rows-count}
 use Rattle.fab_model.proofs.BuildingLinks.{joins_switches, holds_at, rows_of-step, no_link, channel_rows-sorted, by_tail-compared}
 use Rattle.fab_model.proofs.building.channel_rows.Goals as goal
 use Rattle.fab_model.proofs.building.channel_rows.Goals.{then-joins_switches+in_ok-push, else-joins_switches}
@@ -26,7 +27,7 @@ loop-link-preserved c =
     ]
 
 pub channel_row-requires-clause-rise : goal.channel_row-requires-clause-rise
-channel_row-requires-clause-rise c = subst (IsNonDecreasingBy (λ (row : SwitchRow). row.guid)) (sym c.requires.switches) (switch_rows-rise c.args.raw.now)
+channel_row-requires-clause-rise c = subst (AllPairs (λ (first second : SwitchRow). first.guid < second.guid)) (sym c.requires.switches) (switches_rise c.args.raw.now c.links-link-items.ensures.kept c.requires.faultless)
 
 pub channel_row-requires-clause-count : goal.channel_row-requires-clause-count
 channel_row-requires-clause-count c =

@@ -1,5 +1,6 @@
 use Rattle.std.proofs.Common.{◌≡◌, ◌≤◌, length, true, false, sym, ap, ◌∙◌, subst, arith, rules, append-nil}
-use Rattle.std.specs.List.Sorted.{IsNonDecreasingBy}
+use Rattle.std.specs.Prelude.{◌<◌, AllPairs}
+use Rattle.fab_model.proofs.BuildingNumbers.{switches_rise, adapters_rise}
 use Rattle.std.proofs.lemmas.Cmp.{nat_cmp_total, on_total}
 use Rattle.std.proofs.lemmas.List.Sorted.{answers_always}
 use Rattle.fab_model.specs.declared.rows.Lid.{Lid}
@@ -10,7 +11,7 @@ use Rattle.fab_model.specs.Records.{is_adapter}
 use Rattle.fab_model.specs.Faults.{port_limit, greatest_lid}
 use Rattle.fab_model.specs.Built as build
 use Rattle.fab_model.proofs.BuildingBounds.{small_ports, far_ports, link_lids}
-use Rattle.fab_model.proofs.BuildingRows.{is_adapter-same, switch_rows-rise, switch_rows-count, adapter_rows-rise, adapter_rows-count}
+use Rattle.fab_model.proofs.BuildingRows.{is_adapter-same, switch_rows-count, adapter_rows-count}
 use Rattle.fab_model.proofs.BuildingLinks.{is_under_adapter, holds_at, rows_of-step, no_link, terminal_rows-sorted}
 use Rattle.fab_model.proofs.Sorted.{in_order-by_key, is_lt-nat}
 use Rattle.fab_model.proofs.building.terminal_rows.Goals as goal
@@ -31,10 +32,10 @@ loop-link-preserved c =
     ]
 
 pub terminal_row-requires-clause-switches_rise : goal.terminal_row-requires-clause-switches_rise
-terminal_row-requires-clause-switches_rise c = subst (IsNonDecreasingBy (λ (row : SwitchRow). row.guid)) (sym c.requires.switches) (switch_rows-rise c.args.raw.now)
+terminal_row-requires-clause-switches_rise c = subst (AllPairs (λ (first second : SwitchRow). first.guid < second.guid)) (sym c.requires.switches) (switches_rise c.args.raw.now c.links-link-items.ensures.kept c.requires.faultless)
 
 pub terminal_row-requires-clause-adapters_rise : goal.terminal_row-requires-clause-adapters_rise
-terminal_row-requires-clause-adapters_rise c = subst (IsNonDecreasingBy (λ (row : AdapterRow). row.guid)) (sym c.requires.adapters) (adapter_rows-rise c.args.raw.now)
+terminal_row-requires-clause-adapters_rise c = subst (AllPairs (λ (first second : AdapterRow). first.guid < second.guid)) (sym c.requires.adapters) (adapters_rise c.args.raw.now c.links-link-items.ensures.kept c.requires.faultless)
 
 pub terminal_row-requires-clause-switch_count : goal.terminal_row-requires-clause-switch_count
 terminal_row-requires-clause-switch_count c =

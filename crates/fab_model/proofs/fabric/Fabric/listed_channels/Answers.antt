@@ -26,3 +26,6 @@ loop-index-preserved c =
 pub returns : goal.returns
 returns c =
     none_unknown c.args.self.now c.args.failed.now c.loop-index.listed.items c.loop-index.index (omega arith) c.loop-index.invariant.known c.loop-index.invariant.listed
+
+pub named_channel-requires : goal.named_channel-requires
+named_channel-requires c = rw c.self.view_is at c.self.invariant.0

@@ -1,0 +1,11 @@
+use Rattle.std.proofs.Common.{refl, rules}
+use Rattle.std.proofs.lemmas.List.Sorted.{answers_always}
+use Rattle.fab_model.specs.declared.rows.SwitchRow.{SwitchRow}
+use Rattle.fab_model.specs.declared.rows.AdapterRow.{AdapterRow}
+use Rattle.fab_model.proofs.building.terminal_row.Goals as goal
+
+pub returns : goal.returns
+returns c =
+    let switch = c.number_by_guid.ensures.number (λ (row : SwitchRow). row.guid) (answers_always _ _ _ (λ f a r g h. search rules)) c.requires.switches_rise in
+    let adapter = c.number_by_guid-2.ensures.number (λ (row : AdapterRow). row.guid) (answers_always _ _ _ (λ f a r g h. search rules)) c.requires.adapters_rise in
+    rw (switch, adapter) refl
