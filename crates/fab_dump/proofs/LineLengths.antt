@@ -13,7 +13,8 @@ use Rattle.fab_model.specs.declared.rows.SwitchRow.{SwitchRow}
 use Rattle.fab_model.specs.Topology.{Topology, lids_of}
 use Rattle.fab_tables.specs.declared.lanes.PairRow.{PairRow}
 use Rattle.fab_dump.specs.Writing.{hex4, hex16, port3, two, level2, lines_text, guid_head_text, row_of, row_text, numbered_row, block_rows, lids_text, switch_text, table_head_text, lanes_text, pair_text, number_text}
-use Rattle.fab_dump.proofs.WrittenNumbers.{length-last, length-port}
+use Rattle.fab_text.proofs.Spelled.{length-last}
+use Rattle.fab_dump.proofs.WrittenNumbers.{length-port}
 
 -- ---- lines, each with its line feed
 

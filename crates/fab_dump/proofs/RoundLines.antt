@@ -25,8 +25,11 @@ use Rattle.fab_dump.specs.declared.form.Version.TheVariants.{Two, Three}
 use Rattle.fab_dump.specs.Lines.{begins, levels_head, map_head}
 use Rattle.fab_dump.specs.Reading.{plan_mark, version_read, version_named, lane_count, count_field, some_count}
 use Rattle.fab_dump.specs.Writing.{hex4, hex16, port3, two, level2, lines_text, plan_lines, version_text, version_of, lanes_line, count_text, row_text, row_of, numbered_row, block_rows, lids_text, switch_text, table_head_text, table_block, guid_head_text, levels_block, lanes_text, general_map, general_block, pair_text, pair_rows, is_of_switch, map_block, number_text, number_line, number_lines, lane_part}
-use Rattle.fab_dump.proofs.WrittenNumbers.{Spells, IsHigh, decimal_spells, dec_up_to_spelled, spelled_high, hex4_high, hex16_high, port_high, two_high}
-use Rattle.fab_dump.proofs.WrittenFields.{high_solid, fields_word}
+use Rattle.fab_text.proofs.SpelledFields.{dec_up_to_spelled}
+use Rattle.fab_text.proofs.Spelled.{Spells, IsHigh, decimal_spells, spelled_high}
+use Rattle.fab_dump.proofs.WrittenNumbers.{hex4_high, hex16_high, port_high, two_high}
+use Rattle.fab_text.proofs.Words.{high_solid}
+use Rattle.fab_dump.proofs.WrittenFields.{fields_word}
 use Rattle.fab_dump.proofs.RoundLinesPlaces.{IsLong}
 use Rattle.fab_dump.proofs.RoundLinesWords.{digits_differ}
 

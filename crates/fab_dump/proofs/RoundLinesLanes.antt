@@ -30,8 +30,11 @@ use Rattle.fab_dump.specs.Writing.{hex16, port3, two, guid_head_text, numbered_r
 use Rattle.fab_dump.proofs.RoundLinesPlaces.{IsLong, WaitsForNone, kind_says, row_says, levels_says, waited_says}
 use Rattle.fab_dump.proofs.RoundLinesWords.{text_word, hex16_word, port_word, two_word, digits_differ, solid_bytes, last_off, row_is_row, row_back, lanes_words, lanes_fields, map_read_back, lanes_other, levels_guid, map_guid, levels_is_head, map_is_head}
 use Rattle.fab_dump.proofs.RoundLinesTables.{switch_found, guid_low}
-use Rattle.fab_dump.proofs.WrittenFields.{IsWord, high_word, fields_more, words_more, words_last}
-use Rattle.fab_dump.proofs.WrittenNumbers.{Spells, guid_read, decimal_spells, dec_up_to_spelled, spelled_high, port_spelled, two_spelled}
+use Rattle.fab_text.proofs.Words.{IsWord, high_word, words_more}
+use Rattle.fab_dump.proofs.WrittenFields.{fields_more, words_last}
+use Rattle.fab_text.proofs.SpelledFields.{dec_up_to_spelled}
+use Rattle.fab_text.proofs.Spelled.{Spells, decimal_spells, spelled_high}
+use Rattle.fab_dump.proofs.WrittenNumbers.{guid_read, port_spelled, two_spelled}
 
 -- ---- levels
 

@@ -25,8 +25,11 @@ use Rattle.fab_dump.specs.Lines.{Form, State, adds, line_says, kind_of, table_gu
 use Rattle.fab_dump.specs.Writing.{hex4, hex16, lids_text, switch_text, table_head_text, numbered_row, port3, row_of}
 use Rattle.fab_dump.proofs.RoundLinesPlaces.{IsLong, WaitsForNone, kind_says, table_says}
 use Rattle.fab_dump.proofs.RoundLinesWords.{text_word, hex4_word, hex16_word, port_word, digits_differ, solid_bytes, row_is_row, row_back}
-use Rattle.fab_dump.proofs.WrittenFields.{IsWord, high_word, fields_more, words_more}
-use Rattle.fab_dump.proofs.WrittenNumbers.{Spells, IsHigh, guid_read, decimal_spells, dec_spelled, spelled_high, port_spelled, length-port}
+use Rattle.fab_text.proofs.Words.{IsWord, high_word, words_more}
+use Rattle.fab_dump.proofs.WrittenFields.{fields_more}
+use Rattle.fab_text.proofs.SpelledFields.{dec_spelled}
+use Rattle.fab_text.proofs.Spelled.{Spells, IsHigh, decimal_spells, spelled_high}
+use Rattle.fab_dump.proofs.WrittenNumbers.{guid_read, port_spelled, length-port}
 
 -- ---- the switch of a GUID
 

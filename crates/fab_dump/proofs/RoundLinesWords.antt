@@ -17,8 +17,11 @@ use Rattle.fab_dump.specs.declared.line_kind.LineKind.TheVariants.{Comment, Tabl
 use Rattle.fab_tables.specs.Entries.{index_of}
 use Rattle.fab_dump.specs.Lines.{begins, kind_of, kind_found, levels_head, map_head, head_guid, lids_at, lids_from, row_lids, paired, long_row, lanes_read, sixteen}
 use Rattle.fab_dump.specs.Writing.{hex4, hex16, port3, two, row_text, row_of, lanes_text, guid_head_text}
-use Rattle.fab_dump.proofs.WrittenFields.{IsWord, high_word, spaced, fields_spaced, fields_word, words_more, words_last, joined_spaced, read_back, all_words, spaced_map}
-use Rattle.fab_dump.proofs.WrittenNumbers.{lid_read, guid_read, length-last, length-port, two_spelled, dec_up_to_spelled, hex4_high, hex16_high, port_high, two_high}
+use Rattle.fab_text.proofs.Words.{IsWord, high_word, words_more}
+use Rattle.fab_dump.proofs.WrittenFields.{spaced, fields_spaced, fields_word, words_last, joined_spaced, read_back, all_words, spaced_map}
+use Rattle.fab_text.proofs.SpelledFields.{dec_up_to_spelled}
+use Rattle.fab_text.proofs.Spelled.{length-last}
+use Rattle.fab_dump.proofs.WrittenNumbers.{lid_read, guid_read, length-port, two_spelled, hex4_high, hex16_high, port_high, two_high}
 use Rattle.fab_dump.proofs.LongRows.{index_at}
 
 -- ---- words

@@ -6,24 +6,8 @@ use Rattle.std.proofs.lemmas.Bool.{ne_eqb}
 use Rattle.std.proofs.lemmas.List.{append-nil}
 use Rattle.std.proofs.lemmas.List.Elements.{All-nil, All-cons, All-head, All-tail}
 use Rattle.fab_text.specs.Bytes.{is_blank}
+use Rattle.fab_text.proofs.Words.{IsWord}
 use Rattle.fab_text.specs.Fields.{joined, parts, without_empty, first_kept, fields, all_read, with_first}
-
--- a word: no blank stands in it, and it isn't empty
-pub record IsWord (word : List ℕ) : Type 0 where
-  pub solid : All (λ byte. is_blank byte ≡ false) word
-  pub some : 0 < length word
-
-pub high_byte : (byte : ℕ) → 33 ≤ byte → is_blank byte ≡ false
-high_byte byte h = ap (λ b. b || (byte == 9)) (ne_eqb byte 32 (λ e. omega (arith, e, h))) ∙ ne_eqb byte 9 (λ e. omega (arith, e, h))
-
-pub high_solid : (bytes : List ℕ) → All (λ byte. 48 ≤ byte) bytes → All (λ byte. is_blank byte ≡ false) bytes
-high_solid [] h = All-nil (λ byte. is_blank byte ≡ false)
-high_solid (byte ∷ bytes) h =
-    let low : 48 ≤ byte = All-head (λ byte. 48 ≤ byte) byte bytes h in
-    All-cons (λ byte. is_blank byte ≡ false) byte bytes (high_byte byte (omega arith)) (high_solid bytes (All-tail (λ byte. 48 ≤ byte) byte bytes h))
-
-pub high_word : (bytes : List ℕ) → All (λ byte. 48 ≤ byte) bytes → 0 < length bytes → IsWord bytes
-high_word bytes h some = record { solid = high_solid bytes h; some = some }
 
 -- a word in front of a blank
 parts_word : (word rest : List ℕ) → All (λ byte. is_blank byte ≡ false) word → parts (word ++ 32 ∷ rest) ≡ word ∷ parts rest
@@ -66,9 +50,6 @@ fields_word word h = ap first_kept (parts_last word h)
 -- the fields of a word and of what stands behind a space
 pub fields_more : (word rest : List ℕ) → All (λ byte. is_blank byte ≡ false) word → fields (word ++ 32 ∷ rest) ≡ word ∷ without_empty (parts rest)
 fields_more word rest h = ap first_kept (parts_word word rest h)
-
-pub words_more : (word rest : List ℕ) → IsWord word → without_empty (parts (word ++ 32 ∷ rest)) ≡ word ∷ without_empty (parts rest)
-words_more word rest h = ap without_empty (parts_word word rest h.solid) ∙ kept_word word (parts rest) h.some
 
 pub words_last : (word : List ℕ) → IsWord word → without_empty (parts word) ≡ word ∷ []
 words_last word h = ap without_empty (parts_last word h.solid) ∙ kept_word word [] h.some
