@@ -4,7 +4,7 @@ use Rattle.std.proofs.lemmas.Bool.{cases_lt}
 use Rattle.std.proofs.lemmas.Option.{slice_get_within}
 use Rattle.fab_tables.specs.declared.verdict.VirtualChannel.{VirtualChannel}
 use Rattle.fab_tables.specs.Dependencies.{node_of}
-use Rattle.fab_tables.proofs.RoutesBehind.{slice_dropped}
+use Rattle.fab_tables.proofs.Paths.RoutesBehind.{slice_dropped}
 use Rattle.fab_certify.specs.Collected.{Collected, Grows, HasHops, HasFirstHops}
 
 get_dropped : {A : Type 0} (xs : List A) (n k m : ℕ) → m ≡ n + k → slice_get (drop n xs) k ≡ slice_get xs m

@@ -19,11 +19,11 @@ use Rattle.fab_tables.specs.LaneTables.{LaneTables, level}
 use Rattle.fab_tables.specs.Route.{route}
 use Rattle.fab_tables.specs.VirtualChannels.{virtual_channels, on_channels, at_level}
 use Rattle.fab_tables.specs.Dependencies.{IsPath, IsUsed, Depends, DependsByNode, node_of}
-use Rattle.fab_tables.proofs.CertifiedLaws.{contains_of}
-use Rattle.fab_tables.proofs.Routes.{channel_there}
-use Rattle.fab_tables.proofs.Ways.{drop_step}
-use Rattle.fab_tables.proofs.LevelsLow.{level_low}
-use Rattle.fab_tables.proofs.RoutesBehind.{behind_tail, hops_dropped, channel_of_hop}
+use Rattle.fab_tables.proofs.Verdicts.CertifiedLaws.{contains_of}
+use Rattle.fab_tables.proofs.Paths.Routes.{channel_there}
+use Rattle.fab_tables.proofs.Paths.Ways.{drop_step}
+use Rattle.fab_tables.proofs.Rows.LevelsLow.{level_low}
+use Rattle.fab_tables.proofs.Paths.RoutesBehind.{behind_tail, hops_dropped, channel_of_hop}
 use Rattle.fab_tables.specs.Judged.{IsRoomFor, hops_from, hops_behind}
 use Rattle.fab_tables.specs.declared.starts.Start.{Start}
 use Rattle.fab_tables.specs.Starts.{StartsAt}

@@ -17,11 +17,11 @@ use Rattle.fab_tables.specs.Route.{route}
 use Rattle.fab_tables.specs.VirtualChannels.{virtual_channels, at_level}
 use Rattle.fab_tables.specs.Dependencies.{IsPath, IsUsed, Depends, DependsByNode, node_of}
 use Rattle.fab_tables.specs.Plain.{plain_channels}
-use Rattle.fab_tables.proofs.PlainLaws.{same_channels}
-use Rattle.fab_tables.proofs.CertifiedLaws.{get_of}
+use Rattle.fab_tables.proofs.Verdicts.PlainLaws.{same_channels}
+use Rattle.fab_tables.proofs.Verdicts.CertifiedLaws.{get_of}
 use Rattle.fab_tables.specs.declared.starts.Start.{Start}
 use Rattle.fab_tables.specs.Starts.{start_of, IsOfTerminal, StandsFor, AreStartsFor}
-use Rattle.fab_tables.proofs.Lids.{connected_in_use}
+use Rattle.fab_tables.proofs.Joined.Lids.{connected_in_use}
 use Rattle.fab_certify.specs.Numbered.{IsSound}
 use Rattle.fab_certify.specs.Collected.{Collected, IsMarked, Grows, IsFromRoutes, HasHops, HasRoutes, HasRoutesFor, AreDependencies}
 use Rattle.fab_certify.proofs.BehindHops.{hops_grow}

@@ -10,8 +10,8 @@ use Rattle.fab_tables.specs.LaneTables.{LaneTables, level}
 use Rattle.fab_tables.specs.Route.{route}
 use Rattle.fab_tables.specs.VirtualChannels.{virtual_channels, at_level}
 use Rattle.fab_tables.specs.Dependencies.{IsUsed}
-use Rattle.fab_tables.proofs.CertifiedLaws.{get_of, route_there}
-use Rattle.fab_tables.proofs.RoutesBehind.{channel_of_hop}
+use Rattle.fab_tables.proofs.Verdicts.CertifiedLaws.{get_of, route_there}
+use Rattle.fab_tables.proofs.Paths.RoutesBehind.{channel_of_hop}
 
 at_a_level : (t : Topology) (e : Entries) (l : LaneTables) (p : TerminalRow) (lid k : ℕ) (o : Option ℕ) (v : VirtualChannel) →
     slice_get (at_level t l p.port ((route t e p.switch.0 lid).channels) o) k ≡ Some v → v.channel.0 < length t.channels

@@ -11,9 +11,9 @@ use Rattle.fab_tables.specs.Entries.{index_of, cell}
 use Rattle.fab_tables.specs.LaneTables.{LaneTables, AreLaneTables, lane_of_level, no_lanes, level_in_column, lane, with_lane}
 use Rattle.fab_tables.specs.Fit.{PairFits}
 use Rattle.fab_tables.specs.Certified.{number_of}
-use Rattle.fab_tables.proofs.Ascending.{lids_are}
-use Rattle.fab_tables.proofs.LaneSets.{new_kept}
-use Rattle.fab_tables.proofs.LanesChange.{one_lane_changes}
+use Rattle.fab_tables.proofs.Joined.Ascending.{lids_are}
+use Rattle.fab_tables.proofs.Rows.LaneSets.{new_kept}
+use Rattle.fab_tables.proofs.Rows.LanesChange.{one_lane_changes}
 use Rattle.fab_certify.specs.EnginePlans.{AreEngineLanes}
 use Rattle.fab_certify.specs.Mapping.{lane_so_far, IsMapping}
 

@@ -11,7 +11,7 @@ use Rattle.fab_tables.specs.Route.{route}
 use Rattle.fab_tables.specs.VirtualChannels.{virtual_channel, virtual_channels, on_channels, at_level, hop_lane, arrival, Follow}
 use Rattle.fab_tables.specs.Dependencies.{IsUsed, Depends}
 use Rattle.fab_tables.specs.Certified.{Reaches, HasRisingNumbers}
-use Rattle.fab_tables.proofs.CertifiedLaws.{contains_of}
+use Rattle.fab_tables.proofs.Verdicts.CertifiedLaws.{contains_of}
 use Rattle.fab_certify.specs.Numbered.{IsNumberedBy, IsSound}
 use Rattle.fab_certify.specs.Laws.{NumberedIsCertified}
 

@@ -7,7 +7,7 @@ use Rattle.fab_model.specs.declared.rows.ChannelId.{ChannelId}
 use Rattle.fab_tables.specs.declared.verdict.VirtualChannel.{VirtualChannel}
 use Rattle.fab_tables.specs.LaneTables.{LaneTables, AreLaneTables, with_number}
 use Rattle.fab_tables.specs.Certified.{number_of}
-use Rattle.fab_tables.proofs.Cells.{one_number_changes}
+use Rattle.fab_tables.proofs.Rows.Cells.{one_number_changes}
 use Rattle.fab_certify.specs.Collected.{Collected}
 use Rattle.fab_certify.specs.Numbers.{number_given, IsNumbering, HasNumbers}
 

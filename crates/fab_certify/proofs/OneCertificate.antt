@@ -13,7 +13,7 @@ use Rattle.fab_tables.specs.Entries.{Entries}
 use Rattle.fab_tables.specs.LaneTables.{LaneTables, level}
 use Rattle.fab_tables.specs.Dependencies.{IsUsed, Depends, DependsByNode, node_of}
 use Rattle.fab_tables.specs.Verdicts.{IsHop, IsLaneFaultAt, IsFaultAt, IsStructural, IsRefusal}
-use Rattle.fab_tables.proofs.OneVerdict.{one_refusal}
+use Rattle.fab_tables.proofs.Verdicts.OneVerdict.{one_refusal}
 use Rattle.fab_certify.specs.declared.certified.Certified.{Certified}
 use Rattle.fab_certify.specs.declared.certified.Certified.TheVariants.{Numbers, Refused, RingUsed}
 use Rattle.fab_certify.specs.Numbered.{IsNumberedBy, IsNumberedPlan}

@@ -9,7 +9,7 @@ use Rattle.fab_tables.specs.Fit.{IsSource}
 use Rattle.fab_tables.specs.Plain.{IsPlainlyUsed, DependsPlainly}
 use Rattle.fab_certify.specs.Numbered.{IsNumberedBy}
 use Rattle.fab_certify.specs.EnginePlans.{IsEnginePlan}
-use Rattle.fab_tables.proofs.SameTables.{same_but_numbers}
+use Rattle.fab_tables.proofs.Rows.SameTables.{same_but_numbers}
 use Rattle.fab_certify.proofs.SameLanes.{same_or_other, same_numbers}
 
 -- so they are one

@@ -12,13 +12,13 @@ use Rattle.fab_tables.specs.Entries.{index_of, cell}
 use Rattle.fab_tables.specs.LaneTables.{LaneTables, HasLanePerLevel, level, with_level, with_level_in_column}
 use Rattle.fab_tables.specs.Fit.{LanesFit, IsSource}
 use Rattle.fab_tables.specs.Dependencies.{IsOneLane}
-use Rattle.fab_tables.proofs.LaneSets.{level_set_kept}
-use Rattle.fab_tables.proofs.Cells.{one_level_changes}
-use Rattle.fab_tables.proofs.PlainLaws.{source_of, terminal_of}
-use Rattle.fab_tables.proofs.CertifiedLaws.{get_of}
+use Rattle.fab_tables.proofs.Rows.LaneSets.{level_set_kept}
+use Rattle.fab_tables.proofs.Rows.Cells.{one_level_changes}
+use Rattle.fab_tables.proofs.Verdicts.PlainLaws.{source_of, terminal_of}
+use Rattle.fab_tables.proofs.Verdicts.CertifiedLaws.{get_of}
 use Rattle.fab_tables.specs.declared.starts.Start.{Start}
 use Rattle.fab_tables.specs.Starts.{start_of, IsOfTerminal, AreStarts}
-use Rattle.fab_tables.proofs.Lids.{connected_in_use}
+use Rattle.fab_tables.proofs.Joined.Lids.{connected_in_use}
 use Rattle.fab_certify.specs.EnginePlans.{AreEngineLanes}
 use Rattle.fab_certify.specs.OneLane.{IsLeveling, KeepsLevels, HasLevelsFor}
 

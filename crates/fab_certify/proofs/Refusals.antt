@@ -15,12 +15,12 @@ use Rattle.fab_tables.specs.VirtualChannels.{virtual_channels}
 use Rattle.fab_tables.specs.Dependencies.{IsPath}
 use Rattle.fab_tables.specs.Certified.{Reaches}
 use Rattle.fab_tables.specs.Verdicts.{IsHop, IsLaneFaultAt, IsFaultAt, IsStructural, IsRefusal}
-use Rattle.fab_tables.proofs.CertifiedLaws.{get_of}
-use Rattle.fab_tables.proofs.Reached.{all_reached}
-use Rattle.fab_tables.proofs.PlainLaws.{source_of}
+use Rattle.fab_tables.proofs.Verdicts.CertifiedLaws.{get_of}
+use Rattle.fab_tables.proofs.Faults.Reached.{all_reached}
+use Rattle.fab_tables.proofs.Verdicts.PlainLaws.{source_of}
 use Rattle.fab_tables.specs.First.{IsBefore, IsFirst, FindsFirst}
-use Rattle.fab_tables.proofs.RouteFaults.{IsUnreached, unreached}
-use Rattle.fab_tables.proofs.StartFaults.{IsOfLid, of_lid}
+use Rattle.fab_tables.proofs.Faults.RouteFaults.{IsUnreached, unreached}
+use Rattle.fab_tables.proofs.Faults.StartFaults.{IsOfLid, of_lid}
 use Rattle.fab_tables.specs.LaneFaults.{IsStructuralAt}
 use Rattle.fab_certify.specs.Numbered.{IsSound}
 use Rattle.fab_certify.proofs.HopChannels.{row_of}

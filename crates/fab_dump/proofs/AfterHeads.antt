@@ -9,7 +9,7 @@ use Rattle.std.proofs.lemmas.List.{length-replicate, get_or-replicate}
 use Rattle.fab_model.specs.declared.rows.SwitchId.{SwitchId}
 use Rattle.fab_model.specs.Topology.{Topology, lids_of, switch_id, switch_of, is_source}
 use Rattle.fab_tables.specs.declared.plan.Plan.{Plan}
-use Rattle.fab_tables.proofs.Cells.{index_found}
+use Rattle.fab_tables.proofs.Rows.Cells.{index_found}
 use Rattle.fab_dump.specs.declared.fault.PlanFault.{PlanFault}
 use Rattle.fab_dump.specs.declared.form.Block.{Block}
 use Rattle.fab_dump.specs.declared.form.Block.TheVariants.{Table, Levels, MapRow, Numbers}

@@ -7,7 +7,7 @@ use Rattle.fab_model.specs.declared.rows.Lid.{Lid}
 use Rattle.fab_model.specs.declared.rows.SwitchId.{SwitchId}
 use Rattle.fab_model.specs.Topology.{lids_of, switch_id}
 use Rattle.fab_model.proofs.LidsInUse.{lid_there}
-use Rattle.fab_tables.proofs.Ascending.{lids_are}
+use Rattle.fab_tables.proofs.Joined.Ascending.{lids_are}
 use Rattle.fab_tables.specs.Entries.{index_of}
 use Rattle.fab_tables.specs.declared.plan.Plan.{Plan}
 use Rattle.fab_tables.specs.declared.lanes.PairRow.{PairRow}

@@ -13,8 +13,8 @@ use Rattle.fab_tables.specs.Entries.{index_of, cell}
 use Rattle.fab_tables.specs.declared.lanes.PairRow.{PairRow}
 use Rattle.fab_tables.specs.LaneTables.{LaneTables, IsPairRow, level, number, with_level, with_level_in_column, with_lane, with_number, with_pair, with_pair_row, pair_key}
 use Rattle.fab_tables.specs.Fit.{LanesFit, PairFits}
-use Rattle.fab_tables.proofs.Cells.{one_level_changes, one_number_changes}
-use Rattle.fab_tables.proofs.LaneSets.{level_set_kept, pairs_kept}
+use Rattle.fab_tables.proofs.Rows.Cells.{one_level_changes, one_number_changes}
+use Rattle.fab_tables.proofs.Rows.LaneSets.{level_set_kept, pairs_kept}
 use Rattle.fab_dump.specs.Given.{Given, subject, was_given, with_lanes}
 use Rattle.fab_dump.specs.Given.Given.{Number, PairMap}
 use Rattle.fab_dump.specs.Lines.{is_pair_map}

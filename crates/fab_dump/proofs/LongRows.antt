@@ -10,7 +10,7 @@ use Rattle.std.proofs.lemmas.Option.{slice_get_within, get_or_from_slice_get, sl
 use Rattle.fab_text.specs.Fields.{hex, all_read}
 use Rattle.fab_model.specs.Topology.{Topology, lids_of}
 use Rattle.fab_tables.specs.Entries.{index_of}
-use Rattle.fab_tables.proofs.Cells.{index_found, index_there}
+use Rattle.fab_tables.proofs.Rows.Cells.{index_found, index_there}
 use Rattle.fab_dump.specs.declared.fault.PlanFault.{PlanFault}
 use Rattle.fab_dump.specs.declared.form.Block.{Block}
 use Rattle.fab_dump.specs.declared.reader.PlanReader.{PlanReader}

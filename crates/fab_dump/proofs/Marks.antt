@@ -9,7 +9,7 @@ use Rattle.std.proofs.lemmas.List.Folds.{list_any-append}
 use Rattle.std.proofs.lemmas.List.Sums.{fold-append}
 use Rattle.fab_model.specs.Topology.{Topology}
 use Rattle.fab_tables.specs.Entries.{Entries, index_of, with_entry, with_port_in_column}
-use Rattle.fab_tables.proofs.Cells.{index_found}
+use Rattle.fab_tables.proofs.Rows.Cells.{index_found}
 use Rattle.fab_dump.specs.Given.{Given, subject, was_given, plan_with, plan_given}
 use Rattle.fab_dump.specs.Standing.{AreMarks, AreRowMarks}
 

@@ -12,7 +12,7 @@ use Rattle.std.proofs.lemmas.List.Sums.{prefix_len-le-length, prefix_len_passes,
 use Rattle.fab_tables.specs.declared.lanes.PairRow.{PairRow}
 use Rattle.fab_tables.specs.LaneTables.{pair_key, with_pair_row}
 use Rattle.fab_tables.specs.PairPlaces.{StandsAt, GoesTo}
-use Rattle.fab_tables.proofs.PairRows.{keys_rise, pair_set, pair_inserted, pair_inserted_keys}
+use Rattle.fab_tables.proofs.Rows.PairRows.{keys_rise, pair_set, pair_inserted, pair_inserted_keys}
 
 module _ (rows : List PairRow) (up : IsStrictlyIncreasing (map pair_key rows)) (row : PairRow) where
   abbrev is_before : PairRow → Bool

@@ -6,7 +6,7 @@ use Rattle.fab_model.specs.Topology.{Topology, lids_of}
 use Rattle.fab_model.specs.WellFormed.{IsFabric}
 use Rattle.fab_tables.specs.Entries.{Entries, cell, with_port_in_column, no_entries}
 use Rattle.fab_tables.specs.Fit.{EntriesFit}
-use Rattle.fab_tables.proofs.Ascending.{lids_are}
+use Rattle.fab_tables.proofs.Joined.Ascending.{lids_are}
 
 pub entries_fit : (t : Topology) (e : Entries) (s port : ℕ) (place : Option ℕ) → port < 256 → EntriesFit t e → EntriesFit t (with_port_in_column e s port place)
 entries_fit t e s port None low h = h

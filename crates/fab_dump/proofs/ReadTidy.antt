@@ -12,8 +12,8 @@ use Rattle.fab_tables.specs.declared.plan.Plan.{Plan}
 use Rattle.fab_tables.specs.Entries.{index_of, cell}
 use Rattle.fab_tables.specs.LaneTables.{LaneTables, no_lanes, level, level_in_column, number}
 use Rattle.fab_tables.specs.Fit.{LanesFit, PlanFits, IsTidy}
-use Rattle.fab_tables.proofs.Ascending.{lids_are}
-use Rattle.fab_tables.proofs.LaneSets.{new_kept}
+use Rattle.fab_tables.proofs.Joined.Ascending.{lids_are}
+use Rattle.fab_tables.proofs.Rows.LaneSets.{new_kept}
 use Rattle.fab_dump.specs.declared.fault.PlanFault.{PlanFault}
 use Rattle.fab_dump.specs.declared.fault.PlanFault.TheVariants as fault
 use Rattle.fab_dump.specs.declared.form.Version.{Version}

@@ -18,7 +18,7 @@ use Rattle.fab_tables.specs.declared.lanes.PairRow.{PairRow}
 use Rattle.fab_tables.specs.Entries.{index_of, cell}
 use Rattle.fab_tables.specs.LaneTables.{LaneTables, AreLaneTables, IsPairRow, level, level_in_column, lane}
 use Rattle.fab_tables.specs.Fit.{LanesFit, PairFits}
-use Rattle.fab_tables.proofs.Ascending.{lids_are}
+use Rattle.fab_tables.proofs.Joined.Ascending.{lids_are}
 use Rattle.fab_dump.specs.declared.fault.PlanFault.TheVariants.{BadRow, TwiceBlock, TwiceRow, BadLevelRow, BadLaneRow}
 use Rattle.fab_dump.specs.declared.form.Block.TheVariants.{Levels, MapRow, Pairs, Numbers}
 use Rattle.fab_dump.specs.declared.line_kind.LineKind.TheVariants.{Row, LevelsHead, MapHead, CertificateHead, PairLine, EndPlan, Other}

@@ -15,7 +15,7 @@ use Rattle.fab_model.specs.WellFormed.{IsFabric}
 use Rattle.fab_model.proofs.Finds.{position_is}
 use Rattle.fab_tables.specs.Entries.{Entries, AreEntries, entry, port_in_column, cell, index_of}
 use Rattle.fab_tables.specs.Fit.{EntriesFit}
-use Rattle.fab_tables.proofs.Ascending.{lids_are}
+use Rattle.fab_tables.proofs.Joined.Ascending.{lids_are}
 use Rattle.fab_dump.specs.declared.fault.PlanFault.TheVariants.{TwiceBlock, TwiceRow}
 use Rattle.fab_dump.specs.declared.form.Block.TheVariants.{Table}
 use Rattle.fab_dump.specs.declared.line_kind.LineKind.TheVariants.{TableHead}

@@ -8,7 +8,7 @@ use Rattle.std.proofs.lemmas.List.{append_assoc, append-nil, get_or_append_left,
 use Rattle.std.proofs.lemmas.List.Elements.{All-head, All-tail}
 use Rattle.fab_tables.specs.declared.lanes.PairRow.{PairRow}
 use Rattle.fab_tables.specs.LaneTables.{IsPairRow, pair_key, with_pair_row}
-use Rattle.fab_tables.proofs.PairRows.{keys_rise}
+use Rattle.fab_tables.proofs.Rows.PairRows.{keys_rise}
 use Rattle.fab_dump.specs.Writing.{is_of_switch}
 
 -- the pairs of the first switches

@@ -11,7 +11,7 @@ use Rattle.std.proofs.lemmas.List.Elements.{All-map}
 use lib.Seq.{take-add}
 use Rattle.fab_model.specs.Topology.{Topology, lids_of}
 use Rattle.fab_model.specs.WellFormed.{IsFabric}
-use Rattle.fab_tables.proofs.Ascending.{lids_are}
+use Rattle.fab_tables.proofs.Joined.Ascending.{lids_are}
 use Rattle.fab_dump.specs.declared.fault.PlanFault.TheVariants.{TwiceRow}
 use Rattle.fab_dump.specs.declared.form.Block.{Block}
 use Rattle.fab_dump.specs.Given.{Given, was_given}

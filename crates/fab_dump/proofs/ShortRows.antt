@@ -4,7 +4,7 @@ use Rattle.std.specs.Prelude.{is_some, if◌then◌else◌, Contains}
 use Rattle.std.proofs.lemmas.Option.{get_or_from_slice_get}
 use Rattle.fab_model.specs.Topology.{Topology, lids_of}
 use Rattle.fab_tables.specs.Entries.{index_of}
-use Rattle.fab_tables.proofs.Cells.{index_found}
+use Rattle.fab_tables.proofs.Rows.Cells.{index_found}
 use Rattle.fab_tables.specs.LaneTables.{LaneTables}
 use Rattle.fab_dump.specs.declared.fault.PlanFault.{PlanFault}
 use Rattle.fab_dump.specs.declared.fault.PlanFault.TheVariants.{TwiceRow}

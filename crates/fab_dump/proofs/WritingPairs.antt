@@ -9,8 +9,8 @@ use Rattle.std.proofs.lemmas.List.Elements.{All-get_or, All-head, All-tail, All-
 use Rattle.std.proofs.lemmas.Option.{slice_get_within, get_or_from_slice_get}
 use Rattle.fab_tables.specs.declared.lanes.PairRow.{PairRow}
 use Rattle.fab_tables.specs.LaneTables.{LaneTables, AreLaneTables, pair_key, IsPairRow}
-use Rattle.fab_tables.proofs.Cells.{chosen, passed, none_some, unsome}
-use Rattle.fab_tables.proofs.PairRows.{keys_not_fall}
+use Rattle.fab_tables.proofs.Rows.Cells.{chosen, passed, none_some, unsome}
+use Rattle.fab_tables.proofs.Rows.PairRows.{keys_not_fall}
 use Rattle.fab_dump.specs.Writing.{is_of_switch, pair_text, pair_rows, lines_text}
 use Rattle.fab_dump.specs.BlockValues.{of_switch, BeginAt, AreUpTo}
 use Rattle.fab_dump.proofs.WritingRows.{Row, some_row, lines_added, one_line}

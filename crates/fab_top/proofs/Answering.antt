@@ -12,7 +12,7 @@ use Rattle.fab_tables.specs.LaneTables.{LaneTables}
 use Rattle.fab_tables.specs.Verdicts.{IsVerdict}
 use Rattle.fab_certify.specs.declared.certified.Certified.{Certified}
 use Rattle.fab_certify.specs.Certificate.{IsCertificate}
-use Rattle.fab_tables.proofs.OneVerdict.{one_verdict}
+use Rattle.fab_tables.proofs.Verdicts.OneVerdict.{one_verdict}
 use Rattle.fab_certify.proofs.OneCertificate.{one_certificate}
 use Rattle.fab_dump.specs.Writing.{plan_text}
 use Rattle.fab_top.specs.declared.command.Command.{Command}
