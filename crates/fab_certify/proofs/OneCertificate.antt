@@ -19,7 +19,7 @@ use Rattle.fab_certify.specs.declared.certified.Certified.TheVariants.{Numbers, 
 use Rattle.fab_certify.specs.Numbered.{IsNumberedBy, IsNumberedPlan}
 use Rattle.fab_certify.specs.Certificate.{IsCertificateBy}
 use Rattle.fab_certify.specs.Laws.{OneCertificate}
-use Rattle.fab_certify.proofs.Numbering.{numbers_aside}
+use Rattle.fab_certify.proofs.Numbered.Numbering.{numbers_aside}
 use Rattle.fab_certify.proofs.Plainly.{refusal_is_unsound}
 use Rattle.fab_certify.proofs.SameLanes.{same_lanes, same_numbers}
 use Rattle.fab_certify.proofs.ReadAlike.{renumbered, used_aside, used_back, same_depends, sound_aside, numbered_is_acyclic, ring_is_cyclic}

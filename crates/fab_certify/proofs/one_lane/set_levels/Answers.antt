@@ -6,7 +6,7 @@ use Rattle.fab_model.specs.Connected.{AreConnected}
 use Rattle.fab_tables.proofs.Paths.FallingRoutes.{place_below}
 use Rattle.fab_tables.specs.declared.starts.Start.{Start}
 use Rattle.fab_tables.proofs.Faults.RouteFaults.{apart_by}
-use Rattle.fab_certify.proofs.OneLane.{none_leveled, start_low, leveled_more, leveled_same, all_leveled}
+use Rattle.fab_certify.proofs.Engines.OneLane.{none_leveled, start_low, leveled_more, leveled_same, all_leveled}
 use Rattle.fab_certify.proofs.one_lane.set_levels.Goals as goal
 use Rattle.fab_certify.proofs.one_lane.set_levels.Goals.{then-are_connected, else-are_connected}
 

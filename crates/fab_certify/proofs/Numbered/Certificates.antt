@@ -13,7 +13,7 @@ use Rattle.fab_certify.specs.declared.certified.Certified.{Certified}
 use Rattle.fab_certify.specs.declared.certified.Certified.TheVariants.{Numbers}
 use Rattle.fab_certify.specs.Numbered.{IsNumberedPlan}
 use Rattle.fab_certify.specs.Certificate.{IsCertificate, IsCertificateBy}
-use Rattle.fab_certify.proofs.Numbering.{numbered_is_certified}
+use Rattle.fab_certify.proofs.Numbered.Numbering.{numbered_is_certified}
 
 -- the lanes with which a plan that fits is read fit
 pub read_fit : (t : Topology) (o : Option LaneTables) (l : LaneTables) → IfSome o (LanesFit t) → AreReadLanes t o l → LanesFit t l

@@ -9,7 +9,7 @@ use Rattle.fab_tables.specs.Entries.{Entries, cell}
 use Rattle.fab_tables.specs.LaneTables.{LaneTables}
 use Rattle.fab_tables.specs.Judged.{IsRoomFor}
 use Rattle.fab_certify.specs.Collected.{Collected, IsMarkedAt, AreBehind}
-use Rattle.fab_certify.proofs.Mapping.{all_alike}
+use Rattle.fab_certify.proofs.Engines.Mapping.{all_alike}
 
 -- nothing is marked at first
 pub none_behind : (t : Topology) (e : Entries) (l : LaneTables) (lid n : ℕ) (c : Collected) → AreBehind t e l lid (replicate n false) c
