@@ -127,7 +127,7 @@ fn switches_alone(alloc: Global, count: u32) -> Result<Fabric, Fail> {
 }
 
 // The LID at a place of the ascending list of those in use.
-#[tactic(auto, using(fab_tables::proofs::Ascending::lid_in_use))]
+#[tactic(auto, using(fab_tables::proofs::Joined::Ascending::lid_in_use))]
 fn nth_lid(rt: &impl Abort, fabric: &Fabric, index: u32) -> Lid
     ensures { Contains (lids_of fabric.now) result.0 }
 {
