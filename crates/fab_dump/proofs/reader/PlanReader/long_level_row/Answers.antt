@@ -7,9 +7,9 @@ use Rattle.fab_tables.proofs.Joined.Ascending.{lids_are}
 use Rattle.fab_dump.specs.declared.fault.PlanFault.TheVariants.{BadLevelRow}
 use Rattle.fab_dump.specs.declared.form.Block.TheVariants.{Levels}
 use Rattle.fab_dump.specs.Given.Given.{Level}
-use Rattle.fab_dump.proofs.AfterRows.{level_mark}
-use Rattle.fab_dump.proofs.LongBlocks.{row_twice, row_new}
-use Rattle.fab_dump.proofs.LongRows.{row_of, values_of}
+use Rattle.fab_dump.proofs.Reading.AfterRows.{level_mark}
+use Rattle.fab_dump.proofs.Reading.LongBlocks.{row_twice, row_new}
+use Rattle.fab_dump.proofs.Reading.LongRows.{row_of, values_of}
 use Rattle.fab_dump.proofs.reader.PlanReader.long_level_row.Goals as goal
 
 pub returns-then-index : goal.returns-then-index

@@ -6,9 +6,9 @@ use Rattle.fab_tables.proofs.Joined.Ascending.{lids_are}
 use Rattle.fab_dump.specs.declared.fault.PlanFault.TheVariants.{BadRow}
 use Rattle.fab_dump.specs.declared.form.Block.TheVariants.{Table}
 use Rattle.fab_dump.specs.Given.Given.{Port}
-use Rattle.fab_dump.proofs.AfterRows.{port_mark}
-use Rattle.fab_dump.proofs.LongBlocks.{row_twice, row_new}
-use Rattle.fab_dump.proofs.LongRows.{row_of, values_of}
+use Rattle.fab_dump.proofs.Reading.AfterRows.{port_mark}
+use Rattle.fab_dump.proofs.Reading.LongBlocks.{row_twice, row_new}
+use Rattle.fab_dump.proofs.Reading.LongRows.{row_of, values_of}
 use Rattle.fab_dump.proofs.reader.PlanReader.long_table_row.Goals as goal
 
 pub returns-then-index : goal.returns-then-index
