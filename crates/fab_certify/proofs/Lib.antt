@@ -1,5 +1,5 @@
 pub mod Examples
-pub mod Collecting
+pub mod Collected
 pub mod Engines
 pub mod Numbered
 pub mod Refusals

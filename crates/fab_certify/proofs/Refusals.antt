@@ -23,7 +23,7 @@ use Rattle.fab_tables.proofs.Faults.RouteFaults.{IsUnreached, unreached}
 use Rattle.fab_tables.proofs.Faults.StartFaults.{IsOfLid, of_lid}
 use Rattle.fab_tables.specs.LaneFaults.{IsStructuralAt}
 use Rattle.fab_certify.specs.Numbered.{IsSound}
-use Rattle.fab_certify.proofs.Collecting.HopChannels.{row_of}
+use Rattle.fab_certify.proofs.Collected.HopChannels.{row_of}
 
 module _ (t : Topology) (e : Entries) (l : LaneTables) where
   -- what can be refused

@@ -18,8 +18,8 @@ use Rattle.fab_certify.specs.Collected.{Collected, AreDependencies}
 use Rattle.fab_rings.specs.EdgeList.{AreNodeLevels}
 use Rattle.fab_certify.specs.Numbers.{number_given, HasNumbers}
 use Rattle.fab_certify.specs.Numbered.{IsNumberedBy, IsSound}
-use Rattle.fab_certify.proofs.Collecting.CollectingHops.{node_low}
-use Rattle.fab_certify.proofs.Collecting.HopChannels.{used_channel}
+use Rattle.fab_certify.proofs.Collected.CollectingHops.{node_low}
+use Rattle.fab_certify.proofs.Collected.HopChannels.{used_channel}
 use Rattle.fab_certify.proofs.Numbered.Numbering.{first_used, second_used}
 
 -- what is collected is the graph of the dependencies

@@ -24,8 +24,8 @@ use Rattle.fab_tables.specs.Starts.{start_of, IsOfTerminal, StandsFor, AreStarts
 use Rattle.fab_tables.proofs.Joined.Lids.{connected_in_use}
 use Rattle.fab_certify.specs.Numbered.{IsSound}
 use Rattle.fab_certify.specs.Collected.{Collected, IsMarked, Grows, IsFromRoutes, HasHops, HasRoutes, HasRoutesFor, AreDependencies}
-use Rattle.fab_certify.proofs.Collecting.BehindHops.{hops_grow}
-use Rattle.fab_certify.proofs.Collecting.CollectingHops.{grows_none, grows_on}
+use Rattle.fab_certify.proofs.Collected.BehindHops.{hops_grow}
+use Rattle.fab_certify.proofs.Collected.CollectingHops.{grows_none, grows_on}
 
 module _ (t : Topology) (e : Entries) (l : LaneTables) where
   routes_grow : (lid : ℕ) (start : Start) (a b : Collected) → Grows a b → HasRoutes t e l lid start a → HasRoutes t e l lid start b

@@ -29,8 +29,8 @@ use Rattle.fab_tables.specs.declared.starts.Start.{Start}
 use Rattle.fab_tables.specs.Starts.{StartsAt}
 use Rattle.fab_certify.specs.Numbered.{IsSound}
 use Rattle.fab_certify.specs.Collected.{Collected, IsMarked, Grows, AddsHop, IsFromRoutes, HasHops, HasFirstHops, HasRoutes, IsMarkedAt, HasBehind, AreBehind}
-use Rattle.fab_certify.proofs.Collecting.BehindHops.{hops_grow, has_rest, joined, all_first}
-use Rattle.fab_certify.proofs.Collecting.MarksSet.{marks_only, room_for, room_still}
+use Rattle.fab_certify.proofs.Collected.BehindHops.{hops_grow, has_rest, joined, all_first}
+use Rattle.fab_certify.proofs.Collected.MarksSet.{marks_only, room_for, room_still}
 
 -- the hops of the route from a start
 abbrev pub start_hops : Topology → Entries → LaneTables → Lid → Start → ℕ → List VirtualChannel
