@@ -8,3 +8,4 @@ pub mod SameLanes
 pub mod ImageWalks
 pub mod ReadAlike
 pub mod OneCertificate
+pub mod Exists
