@@ -13,13 +13,13 @@ use Rattle.fab_tables.specs.Entries.{Entries}
 use Rattle.fab_tables.specs.LaneTables.{LaneTables, level}
 use Rattle.fab_tables.specs.Dependencies.{IsUsed, Depends, DependsByNode, node_of}
 use Rattle.fab_tables.specs.Verdicts.{IsHop, IsLaneFaultAt, IsFaultAt, IsStructural, IsRefusal}
-use Rattle.fab_tables.proofs.OneVerdict.{one_refusal}
+use Rattle.fab_tables.proofs.Verdicts.OneVerdict.{one_refusal}
 use Rattle.fab_certify.specs.declared.certified.Certified.{Certified}
 use Rattle.fab_certify.specs.declared.certified.Certified.TheVariants.{Numbers, Refused, RingUsed}
 use Rattle.fab_certify.specs.Numbered.{IsNumberedBy, IsNumberedPlan}
 use Rattle.fab_certify.specs.Certificate.{IsCertificateBy}
 use Rattle.fab_certify.specs.Laws.{OneCertificate}
-use Rattle.fab_certify.proofs.Numbering.{numbers_aside}
+use Rattle.fab_certify.proofs.Numbered.Numbering.{numbers_aside}
 use Rattle.fab_certify.proofs.Plainly.{refusal_is_unsound}
 use Rattle.fab_certify.proofs.SameLanes.{same_lanes, same_numbers}
 use Rattle.fab_certify.proofs.ReadAlike.{renumbered, used_aside, used_back, same_depends, sound_aside, numbered_is_acyclic, ring_is_cyclic}

@@ -15,8 +15,8 @@ use Rattle.fab_tables.specs.VirtualChannels.{virtual_channels, Follow}
 use Rattle.fab_tables.specs.Dependencies.{IsPath, IsUsed, Depends, DependsByNode, AreReadLanes, node_of}
 use Rattle.fab_certify.specs.Numbered.{IsNumberedPlan, IsSound}
 use Rattle.fab_certify.proofs.ImageWalks.{closed_of_image}
-use Rattle.fab_certify.proofs.NumberedPlan.{one_node}
-use Rattle.fab_certify.proofs.Numbering.{numbers_aside, first_used, second_used}
+use Rattle.fab_certify.proofs.Numbered.NumberedPlan.{one_node}
+use Rattle.fab_certify.proofs.Numbered.Numbering.{numbers_aside, first_used, second_used}
 use Rattle.fab_certify.proofs.SameLanes.{same_lanes}
 
 -- the same lanes with other numbers

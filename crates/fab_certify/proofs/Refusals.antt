@@ -15,15 +15,15 @@ use Rattle.fab_tables.specs.VirtualChannels.{virtual_channels}
 use Rattle.fab_tables.specs.Dependencies.{IsPath}
 use Rattle.fab_tables.specs.Certified.{Reaches}
 use Rattle.fab_tables.specs.Verdicts.{IsHop, IsLaneFaultAt, IsFaultAt, IsStructural, IsRefusal}
-use Rattle.fab_tables.proofs.CertifiedLaws.{get_of}
-use Rattle.fab_tables.proofs.Reached.{all_reached}
-use Rattle.fab_tables.proofs.PlainLaws.{source_of}
+use Rattle.fab_tables.proofs.Verdicts.CertifiedLaws.{get_of}
+use Rattle.fab_tables.proofs.Faults.Reached.{all_reached}
+use Rattle.fab_tables.proofs.Verdicts.PlainLaws.{source_of}
 use Rattle.fab_tables.specs.First.{IsBefore, IsFirst, FindsFirst}
-use Rattle.fab_tables.proofs.RouteFaults.{IsUnreached, unreached}
-use Rattle.fab_tables.proofs.StartFaults.{IsOfLid, of_lid}
+use Rattle.fab_tables.proofs.Faults.RouteFaults.{IsUnreached, unreached}
+use Rattle.fab_tables.proofs.Faults.StartFaults.{IsOfLid, of_lid}
 use Rattle.fab_tables.specs.LaneFaults.{IsStructuralAt}
 use Rattle.fab_certify.specs.Numbered.{IsSound}
-use Rattle.fab_certify.proofs.HopChannels.{row_of}
+use Rattle.fab_certify.proofs.Collected.HopChannels.{row_of}
 
 module _ (t : Topology) (e : Entries) (l : LaneTables) where
   -- what can be refused
@@ -40,7 +40,7 @@ module _ (t : Topology) (e : Entries) (l : LaneTables) where
   either place (NoNumber a b c) f = absurd f.0
   either place (NotRising a b c d m n) f = absurd f.0
 
-  of_route : (place : List ℕ) (fault : Verdict) → IsFaultAt t e None place fault → IsRefused place fault
+  pub of_route : (place : List ℕ) (fault : Verdict) → IsFaultAt t e None place fault → IsRefused place fault
   of_route place (Unreached lid s end) f = (tt, f)
   of_route place Routes f = absurd (none-some f.0 f.1)
   of_route place Lanes f = absurd (none-some f.0 f.1)
@@ -49,7 +49,7 @@ module _ (t : Topology) (e : Entries) (l : LaneTables) where
   of_route place (NoNumber a b c) f = absurd (none-some f.0 f.1)
   of_route place (NotRising a b c d m n) f = absurd (none-some f.0 f.1)
 
-  of_lanes : (place : List ℕ) (fault : Verdict) → IsStructuralAt t e l place fault → IsRefused place fault
+  pub of_lanes : (place : List ℕ) (fault : Verdict) → IsStructuralAt t e l place fault → IsRefused place fault
   of_lanes place (Unreached lid s end) f = absurd f.1
   of_lanes place Routes f = absurd f.1
   of_lanes place Lanes f = absurd f.1

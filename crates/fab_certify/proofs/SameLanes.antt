@@ -11,7 +11,7 @@ use Rattle.fab_tables.specs.Fit.{IsSource}
 use Rattle.fab_tables.specs.VirtualChannels.{virtual_channel}
 use Rattle.fab_tables.specs.Certified.{number_of}
 use Rattle.fab_tables.specs.Dependencies.{IsOneLane, AreReadLanes}
-use Rattle.fab_tables.proofs.SameTables.{same_but_numbers, numbers_same}
+use Rattle.fab_tables.proofs.Rows.SameTables.{same_but_numbers, numbers_same}
 use Rattle.fab_certify.specs.Numbered.{IsNumberedBy}
 
 pub same_or_other : (a b : Option ℕ) → (a ≡ b) ⊎ (a ≡ b → ⊥)

@@ -13,7 +13,10 @@ mod one_lane;
 pub use certified::{Certified, certify};
 pub use fab_rings::{Graph, Ring, first_ring, levels};
 pub use lane_per_level::engine_lanes;
-pub use laws::{numbered_is_certified, one_certificate, plain_certificate, refusal_is_unsound};
+pub use laws::{
+    certificate_exists, numbered_is_certified, one_certificate, plain_certificate,
+    refusal_is_unsound,
+};
 
 #[cfg(test)]
 mod tests;

@@ -79,7 +79,7 @@ const ALONG_THE_LINE: [[u8; 6]; 3] = [[0, 1, 1, 3, 1, 1], [2, 0, 1, 2, 3, 1], [2
 // Each packet goes on by port 1.
 const ROUND_THE_RING: [[u8; 6]; 3] = [[0, 1, 1, 3, 1, 1], [1, 0, 1, 1, 3, 1], [1, 1, 0, 1, 1, 3]];
 
-#[tactic(auto, using(fab_tables::proofs::Ascending::lid_in_use))]
+#[tactic(auto, using(fab_tables::proofs::Joined::Ascending::lid_in_use))]
 fn nth_lid(rt: &impl Abort, fabric: &Fabric, index: u32) -> Lid
     ensures { Contains (lids_of fabric.now) result.0 }
 {

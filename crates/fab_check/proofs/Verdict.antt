@@ -9,13 +9,13 @@ use Rattle.fab_tables.specs.Entries.{Entries}
 use Rattle.fab_tables.specs.LaneTables.{LaneTables}
 use Rattle.fab_tables.specs.Certified.{Reaches, HasRisingNumbers, IsCertified}
 use Rattle.fab_tables.specs.Verdicts.{IsLaneFaultAt, IsFaultAt, IsVerdict}
-use Rattle.fab_tables.proofs.CertifiedLaws.{lanes_is_certified, routes_reaches}
-use Rattle.fab_tables.proofs.OneVerdict.{one_verdict}
-use Rattle.fab_tables.proofs.VerdictExists.{first_is_verdict}
-use Rattle.fab_tables.proofs.DeadlockLaws.{free_of_deadlock}
+use Rattle.fab_tables.proofs.Verdicts.CertifiedLaws.{lanes_is_certified, routes_reaches}
+use Rattle.fab_tables.proofs.Verdicts.OneVerdict.{one_verdict}
+use Rattle.fab_tables.proofs.Verdicts.VerdictExists.{first_is_verdict}
+use Rattle.fab_tables.proofs.Verdicts.DeadlockLaws.{free_of_deadlock}
 use Rattle.fab_tables.specs.First.{IsBefore, IsFirst, FindsFirst}
-use Rattle.fab_tables.proofs.RouteFaults.{IsUnreached, unreached}
-use Rattle.fab_tables.proofs.StartFaults.{IsOfLid, of_lid}
+use Rattle.fab_tables.proofs.Faults.RouteFaults.{IsUnreached, unreached}
+use Rattle.fab_tables.proofs.Faults.StartFaults.{IsOfLid, of_lid}
 use Rattle.fab_check.specs.Free.{IsFreeOfDeadlock}
 
 -- the first fault is the verdict

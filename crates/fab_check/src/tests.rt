@@ -58,7 +58,7 @@ fn three_in_a_row(alloc: Global) -> Result<Fabric, Fail> {
     Ok(Fabric::build(alloc, &raw)?)
 }
 
-#[tactic(auto, using(fab_tables::proofs::Ascending::lid_in_use))]
+#[tactic(auto, using(fab_tables::proofs::Joined::Ascending::lid_in_use))]
 fn nth_lid(rt: &impl Abort, fabric: &Fabric, index: u32) -> Lid
     ensures { Contains (lids_of fabric.now) result.0 }
 {

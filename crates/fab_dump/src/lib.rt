@@ -15,16 +15,14 @@ mod laws;
 mod level_rows;
 mod line_kind;
 mod read;
-#[cfg(test)]
-mod read_tests;
 mod reader;
 mod rows;
 mod statements;
 mod table_rows;
+#[cfg(test)]
+mod tests;
 mod write;
 mod write_blocks;
-#[cfg(test)]
-mod write_tests;
 
 pub use fault::PlanFault;
 pub use laws::{read_is_tidy, written_is_read, written_is_short};

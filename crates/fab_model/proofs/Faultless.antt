@@ -10,7 +10,6 @@ pub mod Places
 pub mod Sound
 pub mod Terminals
 pub mod Types
-
 use Rattle.fab_model.specs.Laws.{FaultlessMake}
 use Rattle.fab_model.proofs.Faultless.Facts.{have_lines}
 use Rattle.fab_model.proofs.Faultless.Sound.{are_sound, are_few}

@@ -5,7 +5,6 @@ pub mod Lids
 pub mod Lines
 pub mod Repeats
 pub mod Stated
-
 use Rattle.std.proofs.Common.{◌≡◌, true, false, List, [], ◌∷◌, ◌++◌, Option, Some, None, Result, Ok, Err, refl, sym, ap, ◌∙◌, subst}
 use Rattle.std.specs.Option.{option_or}
 use Rattle.fab_text.specs.Readings.{Unless, Gives}

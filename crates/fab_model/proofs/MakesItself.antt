@@ -7,7 +7,6 @@ pub mod NoFault
 pub mod Rows
 pub mod Sound
 pub mod States
-
 use Rattle.std.proofs.Common.{◌≡◌, inl, inr, List, length, Some, None, Ok, Option, refl, sym, ◌∙◌, ap, subst, arith, length-append}
 use Rattle.std.specs.Prelude.{map}
 use Rattle.std.proofs.lemmas.List.{length-map}

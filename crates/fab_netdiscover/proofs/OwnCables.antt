@@ -17,7 +17,7 @@ use Rattle.fab_model.specs.declared.rows.SwitchRow.{SwitchRow}
 use Rattle.fab_model.specs.declared.fault.FabricFault.{FabricFault}
 use Rattle.fab_model.specs.InOrder.{insert_in_order, in_order}
 use Rattle.fab_model.specs.Records.{Records, Stated, stated, is_switch}
-use Rattle.fab_model.specs.Topology.{Topology}
+use Rattle.fab_model.specs.Topology.{Topology, HasNoOwnCable}
 use Rattle.fab_model.specs.Built.{by_guid, switch_rows, switch_number, by_tail, channel_row, channel_rows, topology_of, unless_faulty}
 use Rattle.fab_model.specs.Faults.{first_fault}
 use Rattle.fab_netdiscover.specs.declared.fault.LineFault.{LineFault}
@@ -27,7 +27,7 @@ use Rattle.fab_netdiscover.specs.declared.words.Address.{Address}
 use Rattle.fab_netdiscover.specs.Fronts.{Read, address_behind_mark}
 use Rattle.fab_netdiscover.specs.Lines.{LineKind, SwitchHead, AdapterHead, RouterHead, PortLine, PassedOver, line_kind, switch_head, adapter_head, cabled_at, link_of, link_under, is_own, port_line}
 use Rattle.fab_netdiscover.specs.Reading.{no_records, with_node, with_link, under_last, line_read, on_line, lines_read, records_in}
-use Rattle.fab_netdiscover.specs.Laws.{HasNoOwnCable, MakeNoOwnCable, TextsHaveNoOwnCable}
+use Rattle.fab_netdiscover.specs.Laws.{MakeNoOwnCable, TextsHaveNoOwnCable}
 use Rattle.std.specs.Str.Lines.{lines}
 use Rattle.fab_text.specs.Fronts.{line_at}
 use Rattle.fab_text.proofs.LinesMet.{no_line_left}

@@ -15,13 +15,13 @@ use Rattle.fab_model.specs.declared.rows.AdapterRow.{AdapterRow}
 use Rattle.fab_model.specs.declared.rows.ChannelRow.{ChannelRow}
 use Rattle.fab_model.specs.declared.rows.TerminalRow.{TerminalRow}
 use Rattle.fab_model.specs.Description.{HasNoLineFeed, IsDescription}
-use Rattle.fab_model.specs.Topology.{Topology, guid_of, ports_of, leaves_by, is_cabled_at, reversed}
+use Rattle.fab_model.specs.Topology.{Topology, guid_of, ports_of, leaves_by, is_cabled_at, reversed, HasNoOwnCable}
 use Rattle.fab_model.specs.WellFormed.{IsFabric, IsPort, IsUnicast, adapter_ports_of}
 use Rattle.fab_model.specs.Written.{Block, adapter_guid_of, is_on_adapter, port_numbers, switch_link, adapter_link, switch_block, adapter_block, blocks, laid_out, records_of}
 use Rattle.fab_model.proofs.MakesItself.{makes_itself}
 use Rattle.fab_netdiscover.specs.Reading.{no_records, lines_read, records_in}
 use Rattle.fab_netdiscover.specs.Writing.{desc_of_switch, lid_of_switch, desc_of_adapter, switch_head_text, adapter_head_text, channel_text, terminal_text, adapter_port_text, switch_port_text, adapter_port_line, switch_text, adapter_text, text_of}
-use Rattle.fab_netdiscover.specs.Laws.{HasNoOwnCable, IsTextOf, WrittenIsRead, WrittenIsBuilt}
+use Rattle.fab_netdiscover.specs.Laws.{IsTextOf, WrittenIsRead, WrittenIsBuilt}
 use Rattle.fab_netdiscover.proofs.Rows.{holds, tip_is_switch}
 use Rattle.fab_netdiscover.proofs.NumberedRows.{Row, some_row}
 use Rattle.fab_netdiscover.proofs.WrittenPorts.{LinkText, far_link, near_link, channel_line, terminal_line, adapter_line}

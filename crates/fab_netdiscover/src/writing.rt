@@ -1,11 +1,11 @@
 //! The netdiscover text of a fabric.
 ghost use Rattle.std.specs.Prelude.{◌≡◌, ◌<◌, ◌++◌, length, slice_get, find, IfOk, IfSome, OnOk};
 ghost use Rattle.std.specs.List.{flat_map, enumerate_from};
-ghost use Rattle.fab_model.specs.Topology.{leaves_by, is_cabled_at};
+ghost use Rattle.fab_model.specs.Topology.{leaves_by, is_cabled_at, HasNoOwnCable};
 ghost use Rattle.fab_model.specs.Written.{port_numbers};
 ghost use Rattle.fab_model.specs.WellFormed.{IsFabric};
 ghost use Rattle.fab_netdiscover.specs.AdapterPorts.{FindsAmong};
-ghost use Rattle.fab_netdiscover.specs.Laws.{HasNoOwnCable, IsTextOf};
+ghost use Rattle.fab_netdiscover.specs.Laws.{IsTextOf};
 ghost use Rattle.fab_netdiscover.specs.Writing as writing;
 
 use crate::adapter_ports::terminals_by_adapter_port;

@@ -1,3 +1,7 @@
+//! Following a route: from a switch along the channels that the forwarding entries of a LID name, switch by switch,
+//! to the LID's place or to an entry by which a packet would be lost. A route that goes along as many channels as
+//! there are switches is a loop. A step takes constant time and no memory. Entries are those of InfiniBand's linear
+//! forwarding tables.
 ghost use Rattle.std.specs.Prelude.{◌≡◌, ◌<◌, length, Contains, false, MatchResult};
 ghost use Rattle.fab_model.specs.declared.rows.ChannelId.{ChannelId as Channel};
 ghost use Rattle.fab_model.specs.Topology.{lids_of};

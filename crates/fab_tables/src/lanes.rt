@@ -1,3 +1,6 @@
+//! Service levels, lane maps and numbers of a plan: InfiniBand's service levels and SL-to-VL maps, and for each
+//! virtual channel the number that shows that packets don't wait in a ring (Dally and Seitz). Reading one takes
+//! constant time, but for maps of pairs of ports, which are found by halving.
 ghost use Rattle.std.specs.Prelude.{◌≡◌, ◌<◌, ◌≤◌, ◌↔◌, length, IsTrue, IfOk, OnOk, OnErr, IsErrOf, IfSome, All, Contains, slice_get};
 ghost use Rattle.fab_model.specs.Topology.{lids_of};
 ghost use Rattle.fab_tables.specs.LaneTables.{level, lane, lane_at, number, no_lanes, with_level, with_lane, with_number, with_pair, HasRoomFor};

@@ -1,4 +1,4 @@
-// A service level, or none, in one byte.
+//! A service level, or none, in one byte.
 ghost use Rattle.std.specs.Prelude.{◌≡◌, ◌<◌, IfSome};
 ghost use Rattle.fab_tables.specs.LevelBytes.{level_of_byte};
 

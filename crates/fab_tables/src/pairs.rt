@@ -1,4 +1,4 @@
-// The pairs of ports that have a lane map of their own, in the order of (switch, from port, to port).
+//! The pairs of ports that have a lane map of their own, in the order of (switch, from port, to port).
 ghost use Rattle.std.specs.Prelude.{◌≡◌, ◌+◌, ◌*◌, ◌<◌, ◌≤◌, length, map, find, None, Some, IfOk, IfErr, MatchOption, All, IsTrue, ◌↔◌};
 ghost use Rattle.std.specs.List.{AllWithin};
 ghost use Rattle.std.specs.List.Sorted.{IsStrictlyIncreasing};

@@ -1,3 +1,4 @@
+//! A plan: forwarding tables, and perhaps lanes.
 ghost use Rattle.std.specs.Prelude.{◌≡◌, ◌↔◌, IfOk, IsTrue};
 
 use crate::lanes::Lanes;

@@ -1,3 +1,5 @@
+//! InfiniBand's linear forwarding tables: for each switch and each LID in use the port by which packets leave. An
+//! entry takes one byte, and constant time to read or set.
 ghost use Rattle.std.specs.Prelude.{◌≡◌, ◌<◌, ◌↔◌, length, IfOk, IsTrue, Contains};
 ghost use Rattle.fab_model.specs.Topology.{lids_of};
 ghost use Rattle.fab_tables.specs.Entries.{entry, no_entries, with_entry};

@@ -46,7 +46,7 @@ fn link(line: u32, port: u32, far_port: u32) -> RawLink
 }
 
 // The one LID in use.
-#[tactic(auto, using(crate::proofs::Ascending::lid_in_use))]
+#[tactic(auto, using(crate::proofs::Joined::Ascending::lid_in_use))]
 fn one_lid(rt: &impl Abort, fabric: &Fabric) -> Lid
     ensures { Contains (lids_of fabric.now) result.0 }
 {

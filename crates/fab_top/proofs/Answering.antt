@@ -3,16 +3,15 @@ use Rattle.std.proofs.Common.{◌≡◌, ℕ, ◌≤◌, List, [], ◌∷◌, Op
 use Rattle.std.specs.Prelude.{MatchOption}
 use Rattle.std.specs.Option.{option_map_or}
 use Rattle.fab_model.specs.Topology.{Topology}
-use Rattle.fab_model.specs.WellFormed.{IsFabric}
 use Rattle.fab_tables.specs.declared.plan.Plan.{Plan}
 use Rattle.fab_tables.specs.declared.verdict.Verdict.{Verdict}
-use Rattle.fab_tables.specs.Entries.{Entries}
 use Rattle.fab_tables.specs.Fit.{PlanFits}
-use Rattle.fab_tables.specs.LaneTables.{LaneTables}
 use Rattle.fab_tables.specs.Verdicts.{IsVerdict}
 use Rattle.fab_certify.specs.declared.certified.Certified.{Certified}
 use Rattle.fab_certify.specs.Certificate.{IsCertificate}
-use Rattle.fab_tables.proofs.OneVerdict.{one_verdict}
+use Rattle.fab_tables.proofs.Verdicts.OneVerdict.{one_verdict}
+use Rattle.fab_tables.proofs.Verdicts.VerdictExists.{verdict_exists}
+use Rattle.fab_certify.proofs.Exists.Certificates.{certificate_exists}
 use Rattle.fab_certify.proofs.OneCertificate.{one_certificate}
 use Rattle.fab_dump.specs.Writing.{plan_text}
 use Rattle.fab_top.specs.declared.command.Command.{Command}
@@ -133,23 +132,17 @@ status_is_small w a told is = small_by w (command_of w.words) a told is
 -- ---- existence
 
 -- there is a verdict on each plan, and what certifying answers
-abbrev VerdictExists : Type 0
-VerdictExists = (t : Topology) (e : Entries) (l : Option LaneTables) → IsFabric t → (v : Verdict) × IsVerdict t e l v
+exists_check : (t : Topology) (p : Plan) → IsReadPlan t p → HasRightAnswer (IsCheckAnswer t p)
+exists_check t p read = let v : (v : Verdict) × IsVerdict t p.tables p.lanes v = verdict_exists t p.tables p.lanes read.fabric in (verdict_answer t v.0, (v.0, v.1, refl))
 
-abbrev CertificateExists : Type 0
-CertificateExists = (t : Topology) (p : Plan) → IsFabric t → PlanFits t p → (c : Certified) × IsCertificate t p c
+exists_certify : (t : Topology) (p : Plan) → IsReadPlan t p → HasRightAnswer (IsCertifyAnswer t p)
+exists_certify t p read = let c : (c : Certified) × IsCertificate t p c = certificate_exists t p read.fabric read.fits in (certified_answer t p c.0, (c.0, c.1, refl))
 
-exists_check : VerdictExists → (t : Topology) (p : Plan) → IsReadPlan t p → HasRightAnswer (IsCheckAnswer t p)
-exists_check verdicts t p read = let v : (v : Verdict) × IsVerdict t p.tables p.lanes v = verdicts t p.tables p.lanes read.fabric in (verdict_answer t v.0, (v.0, v.1, refl))
+exists_by : (w : Seen) (command : Option Command) → AreTold w (option_map_or files_of command []) → HasRightAnswer (AnswersIt w command)
+exists_by w None told = (usage, refl)
+exists_by w (Some (Check fabric plan)) told = both_exist w fabric plan IsCheckAnswer told exists_check
+exists_by w (Some (Certify fabric plan)) told = both_exist w fabric plan IsCertifyAnswer told exists_certify
+exists_by w (Some (Convert fabric plan)) told = both_exist w fabric plan IsPlanText told (λ t p read. (done (plan_text t p), refl))
 
-exists_certify : CertificateExists → (t : Topology) (p : Plan) → IsReadPlan t p → HasRightAnswer (IsCertifyAnswer t p)
-exists_certify certificates t p read = let c : (c : Certified) × IsCertificate t p c = certificates t p read.fabric read.fits in (certified_answer t p c.0, (c.0, c.1, refl))
-
-exists_by : VerdictExists → CertificateExists → (w : Seen) (command : Option Command) → AreTold w (option_map_or files_of command []) → HasRightAnswer (AnswersIt w command)
-exists_by verdicts certificates w None told = (usage, refl)
-exists_by verdicts certificates w (Some (Check fabric plan)) told = both_exist w fabric plan IsCheckAnswer told (exists_check verdicts)
-exists_by verdicts certificates w (Some (Certify fabric plan)) told = both_exist w fabric plan IsCertifyAnswer told (exists_certify certificates)
-exists_by verdicts certificates w (Some (Convert fabric plan)) told = both_exist w fabric plan IsPlanText told (λ t p read. (done (plan_text t p), refl))
-
-pub answer_exists : VerdictExists → CertificateExists → AnswerExists
-answer_exists verdicts certificates w told = exists_by verdicts certificates w (command_of w.words) told
+pub answer_exists : AnswerExists
+answer_exists w told = exists_by w (command_of w.words) told

@@ -1,6 +1,11 @@
-//! The laws of answers, claimed. They say of words and contents, with no code: that there is one answer at most, that it
-//! keeps what the program promises, and that its status is small.
-ghost use Rattle.fab_top.specs.Laws.{OneAnswer, AnswersKeepHeadline, StatusIsSmall};
+//! The laws of answers, claimed. They say of words and contents, with no code: that there is an answer, and one alone,
+//! that it keeps what the program promises, and that its status is small.
+ghost use Rattle.fab_top.specs.Laws.{AnswerExists, OneAnswer, AnswersKeepHeadline, StatusIsSmall};
+
+/// Words and the contents of the files that they name have an answer.
+pub fn answer_exists()
+    ensures { AnswerExists }
+{}
 
 /// Words and the contents of the files that they name have one answer.
 pub fn one_answer()

@@ -15,6 +15,6 @@ mod top_call;
 mod words;
 
 pub use command::Command;
-pub use laws::{answers_keep_headline, one_answer, status_is_small};
+pub use laws::{answer_exists, answers_keep_headline, one_answer, status_is_small};
 pub use top_call::run;
 pub use words::{WordsFault, read_words};

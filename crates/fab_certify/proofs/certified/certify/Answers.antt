@@ -9,7 +9,7 @@ use Rattle.fab_tables.specs.Verdicts.{IsRefusal}
 use Rattle.fab_certify.specs.Numbered.{IsSound}
 use Rattle.fab_certify.specs.declared.certified.Certified.TheVariants.{Refused, Numbers}
 use Rattle.fab_certify.specs.Certificate.{IsCertificate, HasNoPair, IsPlainCertificate}
-use Rattle.fab_certify.proofs.Certificates.{certificate_by, certificate_certified, certificate_fits, certificate_tidy}
+use Rattle.fab_certify.proofs.Numbered.Certificates.{certificate_by, certificate_certified, certificate_fits, certificate_tidy}
 use Rattle.fab_certify.proofs.Plainly.{plain_certificate}
 use Rattle.fab_certify.proofs.certified.certify.Goals as goal
 

@@ -2,7 +2,7 @@ use Rattle.std.proofs.Common.{◌≡◌, ◌*◌, ◌∙◌, refl, subst, length
 use Rattle.fab_rings.specs.EdgeList.{AreNodeLevels}
 use Rattle.fab_rings.specs.Numbering.{IsNumbering}
 use Rattle.fab_certify.specs.Numbers.{HasNumbers}
-use Rattle.fab_certify.proofs.NumberedPlan.{dependency_ring, is_numbered}
+use Rattle.fab_certify.proofs.Numbered.NumberedPlan.{dependency_ring, is_numbered}
 use Rattle.fab_certify.proofs.certified.numbered.Goals as goal
 
 pub returns-in-Ring : goal.returns-in-Ring

@@ -1,7 +1,7 @@
 use Rattle.std.proofs.Common.{◌≡◌, ◌*◌, refl, ◌∙◌, ap, arith, length, replicate, false, Bool, slice_index_or}
 use Rattle.fab_model.specs.Topology.{lids_of}
 use Rattle.fab_model.proofs.LidsInUse.{as_many, lid_there, contains_lid}
-use Rattle.fab_certify.proofs.CollectingStarts.{from_no_routes, one_lid_more, are_dependencies}
+use Rattle.fab_certify.proofs.Collected.CollectingStarts.{from_no_routes, one_lid_more, are_dependencies}
 use Rattle.fab_certify.proofs.collecting.collect.Goals as goal
 
 pub loop-lid-init : goal.loop-lid-init

@@ -7,13 +7,13 @@ use Rattle.std.specs.Prelude.{false}
 use Rattle.fab_model.specs.Topology.{Topology, place_of}
 use Rattle.fab_model.specs.Connected.{AreConnected}
 use Rattle.fab_model.specs.WellFormed.{IsFabric}
-use Rattle.fab_tables.proofs.FallingRoutes.{place_below}
+use Rattle.fab_tables.proofs.Paths.FallingRoutes.{place_below}
 use Rattle.fab_tables.specs.declared.starts.Start.{Start}
 use Rattle.fab_tables.specs.LaneTables.{LaneTables}
 use Rattle.fab_tables.specs.Starts.{IsOfTerminal, AreStartsFor}
-use Rattle.fab_tables.proofs.RouteFaults.{apart_by}
-use Rattle.fab_certify.proofs.CollectingStarts.{none_collected, routes_apart, collected_more, collected_same, has_all}
-use Rattle.fab_certify.proofs.MarksSet.{none_behind}
+use Rattle.fab_tables.proofs.Faults.RouteFaults.{apart_by}
+use Rattle.fab_certify.proofs.Collected.CollectingStarts.{none_collected, routes_apart, collected_more, collected_same, has_all}
+use Rattle.fab_certify.proofs.Collected.MarksSet.{none_behind}
 use Rattle.fab_certify.proofs.collecting.collect_for.Goals as goal
 use Rattle.fab_certify.proofs.collecting.collect_for.Goals.{then-are_connected+in_ok-collect_from, else-are_connected}
 

@@ -1,6 +1,6 @@
 use Rattle.fab_tables.specs.Judged.{IsRoomFor}
 use Rattle.fab_certify.specs.Collected.{AreBehind}
-use Rattle.fab_certify.proofs.CollectingStarts.{AreCollectedFrom}
+use Rattle.fab_certify.proofs.Collected.CollectingStarts.{AreCollectedFrom}
 use Rattle.fab_certify.proofs.collecting.collect_for.Given as goal
 
 abbrev pub invariant-loop-start : goal.invariant-loop-start

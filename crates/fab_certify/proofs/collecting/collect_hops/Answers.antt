@@ -4,7 +4,7 @@ use Rattle.fab_tables.specs.Entries.{cell}
 use Rattle.fab_tables.specs.HopsAhead.{HopsAhead}
 use Rattle.fab_tables.specs.Dependencies.{node_of}
 use Rattle.fab_certify.specs.Collected.{AddsHop}
-use Rattle.fab_certify.proofs.CollectingHops.{IsCollecting, start_hops, begins, start_low, channel_low, mark_low, level_few, small_node, node_below, next_hop, hop_marked, known_routes, known_behind, known_from_routes, known_grows, has_routes, are_behind}
+use Rattle.fab_certify.proofs.Collected.CollectingHops.{IsCollecting, start_hops, begins, start_low, channel_low, mark_low, level_few, small_node, node_below, next_hop, hop_marked, known_routes, known_behind, known_from_routes, known_grows, has_routes, are_behind}
 use Rattle.fab_certify.proofs.collecting.collect_hops.Goals as goal
 
 pub hops-hop-items-requires-clause-switch : goal.hops-hop-items-requires-clause-switch

@@ -1,5 +1,5 @@
 -- The hops so far are collected.
-use Rattle.fab_certify.proofs.CollectingHops.{IsCollectingOn}
+use Rattle.fab_certify.proofs.Collected.CollectingHops.{IsCollectingOn}
 use Rattle.fab_certify.proofs.collecting.collect_hops.Given as goal
 
 abbrev pub invariant-loop-hop : goal.invariant-loop-hop

@@ -1,5 +1,5 @@
 use Rattle.std.proofs.Common.{arith}
-use Rattle.fab_certify.proofs.Mapping.{mapping_begins, one_more_level, one_more_switch, all_mapped}
+use Rattle.fab_certify.proofs.Engines.Mapping.{mapping_begins, one_more_level, one_more_switch, all_mapped}
 use Rattle.fab_certify.proofs.lane_per_level.engine_lanes.Goals as goal
 
 pub loop-switch-init : goal.loop-switch-init

@@ -1,5 +1,5 @@
 use Rattle.std.proofs.Common.{arith}
-use Rattle.fab_certify.proofs.NumbersSet.{all_numbered}
+use Rattle.fab_certify.proofs.Numbered.NumbersSet.{all_numbered}
 use Rattle.fab_certify.proofs.numbers.set_numbers.Goals as goal
 
 pub returns : goal.returns

@@ -1,7 +1,7 @@
 use Rattle.std.proofs.Common.{arith, slice_index_or}
 use Rattle.fab_model.specs.Topology.{lids_of}
 use Rattle.fab_model.proofs.LidsInUse.{as_many, lid_there, contains_lid}
-use Rattle.fab_certify.proofs.OneLane.{leveling_begins, one_lid_leveled, is_one_lane}
+use Rattle.fab_certify.proofs.Engines.OneLane.{leveling_begins, one_lid_leveled, is_one_lane}
 use Rattle.fab_certify.proofs.one_lane.one_lane.Goals as goal
 
 pub loop-lid-init : goal.loop-lid-init

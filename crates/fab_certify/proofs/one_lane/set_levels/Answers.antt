@@ -3,10 +3,10 @@ use Rattle.std.proofs.lemmas.Bool.{both_ways}
 use Rattle.std.proofs.lemmas.Option.{slice_get-get_or}
 use Rattle.fab_model.specs.Topology.{Topology, place_of}
 use Rattle.fab_model.specs.Connected.{AreConnected}
-use Rattle.fab_tables.proofs.FallingRoutes.{place_below}
+use Rattle.fab_tables.proofs.Paths.FallingRoutes.{place_below}
 use Rattle.fab_tables.specs.declared.starts.Start.{Start}
-use Rattle.fab_tables.proofs.RouteFaults.{apart_by}
-use Rattle.fab_certify.proofs.OneLane.{none_leveled, start_low, leveled_more, leveled_same, all_leveled}
+use Rattle.fab_tables.proofs.Faults.RouteFaults.{apart_by}
+use Rattle.fab_certify.proofs.Engines.OneLane.{none_leveled, start_low, leveled_more, leveled_same, all_leveled}
 use Rattle.fab_certify.proofs.one_lane.set_levels.Goals as goal
 use Rattle.fab_certify.proofs.one_lane.set_levels.Goals.{then-are_connected, else-are_connected}
 

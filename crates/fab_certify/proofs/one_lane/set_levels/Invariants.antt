@@ -1,4 +1,4 @@
-use Rattle.fab_certify.proofs.OneLane.{AreLeveled}
+use Rattle.fab_certify.proofs.Engines.OneLane.{AreLeveled}
 use Rattle.fab_certify.proofs.one_lane.set_levels.Given as goal
 
 abbrev pub invariant-loop-start : goal.invariant-loop-start

@@ -5,7 +5,7 @@ use Rattle.fab_tables.specs.declared.verdict.Verdict.TheVariants.{Routes}
 use Rattle.fab_tables.specs.LaneTables.{LaneTables}
 use Rattle.fab_tables.specs.Verdicts.{IsFaultAt, IsVerdict}
 use Rattle.fab_tables.specs.First.{FindsFirst}
-use Rattle.fab_tables.proofs.Reached.{all_reached}
+use Rattle.fab_tables.proofs.Faults.Reached.{all_reached}
 use Rattle.fab_check.proofs.Verdict.{route_is_verdict, routes_is_verdict, lanes_is_verdict, routes_exactly, lanes_exactly, lanes_free}
 use Rattle.fab_check.proofs.Checker.check.Goals as goal
 

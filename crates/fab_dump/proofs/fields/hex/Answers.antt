@@ -1,8 +1,8 @@
-use Rattle.std.proofs.Common.{◌≡◌, ◌<◌, ◌^◌, ◌∙◌, Some, IfSome, sym, ap, subst, arith}
+use Rattle.std.proofs.Common.{◌≡◌, ◌<◌, ◌^◌, ◌∙◌, IfSome, sym, ap, subst, arith}
 use Rattle.std.proofs.lemmas.List.{take_rest}
 use Rattle.fab_dump.specs.FieldsLeft.{spelled_in}
 use Rattle.fab_text.specs.Fields.{hex}
-use Rattle.fab_dump.proofs.FieldNumbers.{hex_read, hex_fits}
+use Rattle.fab_dump.proofs.Reading.FieldNumbers.{hex_read, hex_fits}
 use Rattle.fab_dump.proofs.fields.hex.Goals as goal
 
 pub returns : goal.returns

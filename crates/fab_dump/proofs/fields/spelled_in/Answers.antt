@@ -1,5 +1,5 @@
 use Rattle.std.proofs.Common.{arith}
-use Rattle.fab_dump.proofs.FieldNumbers.{digit_refused}
+use Rattle.fab_dump.proofs.Reading.FieldNumbers.{digit_refused}
 use Rattle.fab_dump.proofs.fields.spelled_in.Goals as goal
 
 pub returns-in-None : goal.returns-in-None

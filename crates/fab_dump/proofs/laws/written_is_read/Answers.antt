@@ -1,4 +1,4 @@
-use Rattle.fab_dump.proofs.RoundText.{written_is_read}
+use Rattle.fab_dump.proofs.Round.Texts.{written_is_read}
 use Rattle.fab_dump.proofs.laws.written_is_read.Goals as goal
 
 pub returns : goal.returns

@@ -3,8 +3,8 @@ use Rattle.std.specs.Prelude.{IfOk}
 use Rattle.fab_model.specs.Topology.{Topology}
 use Rattle.fab_model.specs.WellFormed.{IsFabric}
 use Rattle.fab_dump.specs.Reading.{nothing_read}
-use Rattle.fab_dump.proofs.FirstLines.{body_is, gives_same}
-use Rattle.fab_dump.proofs.ReadTidy.{begun_orderly}
+use Rattle.fab_dump.proofs.Reading.FirstLines.{body_is, gives_same}
+use Rattle.fab_dump.proofs.Reading.ReadTidy.{begun_orderly}
 use Rattle.fab_dump.proofs.read.read_body.Goals as goal
 
 pub returns-in_default-count_in-clause-exact : goal.returns-in_default-count_in-clause-exact

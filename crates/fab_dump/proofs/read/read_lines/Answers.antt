@@ -1,6 +1,6 @@
 use Rattle.std.proofs.Common.{◌∙◌, sym, ap, arith, Ok}
 use Rattle.fab_tables.specs.declared.plan.Plan.{Plan}
-use Rattle.fab_dump.proofs.PlanRead.{at_start, went_on, ended, refused, dump_ended, no_end}
+use Rattle.fab_dump.proofs.Reading.PlanRead.{at_start, went_on, ended, refused, dump_ended, no_end}
 use Rattle.fab_dump.proofs.read.read_lines.Goals as goal
 
 pub loop-found-init : goal.loop-found-init

@@ -5,7 +5,7 @@ use Rattle.fab_dump.specs.Lines.{Form, State}
 use Rattle.fab_dump.specs.Orderly.{IsOrderly}
 use Rattle.fab_dump.specs.Reading.{read_lines}
 use Rattle.fab_dump.specs.Standing.{Stands}
-use Rattle.fab_dump.proofs.PlanRead.{Reads}
+use Rattle.fab_dump.proofs.Reading.PlanRead.{Reads}
 use Rattle.fab_dump.proofs.read.read_lines.Given as goal
 
 abbrev pub invariant-loop-found : goal.invariant-loop-found

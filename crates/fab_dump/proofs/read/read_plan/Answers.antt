@@ -5,8 +5,8 @@ use Rattle.fab_model.specs.WellFormed.{IsFabric}
 use Rattle.std.specs.Str.Lines.{lines}
 use Rattle.fab_dump.specs.declared.form.Version.TheVariants.{Dump}
 use Rattle.fab_dump.specs.Reading.{nothing_read, dump_form, read_lines, plan_of}
-use Rattle.fab_dump.proofs.FirstLines.{plan_is, dump_is, nothing_is, gives_same, read_fits, read_tidy}
-use Rattle.fab_dump.proofs.ReadTidy.{begun_orderly}
+use Rattle.fab_dump.proofs.Reading.FirstLines.{plan_is, dump_is, nothing_is, gives_same, read_fits, read_tidy}
+use Rattle.fab_dump.proofs.Reading.ReadTidy.{begun_orderly}
 use Rattle.fab_dump.proofs.read.read_plan.Goals as goal
 use Rattle.fab_dump.proofs.read.read_plan.Goals.{in_default-via-in-Some+else-starts_with, in_default-via-in_default}
 

@@ -4,7 +4,7 @@ use Rattle.std.proofs.lemmas.Grind.{take-set_at, common_steps}
 use Rattle.fab_text.specs.Fields.{all_read, dec_up_to}
 use Rattle.fab_dump.specs.FieldsLeft.{prepended}
 use Rattle.fab_dump.specs.Lines.{sixteen}
-use Rattle.fab_dump.proofs.RowValues.{one_value, too_many, just, not_sixteen, are_sixteen}
+use Rattle.fab_dump.proofs.Reading.RowValues.{one_value, too_many, just, not_sixteen, are_sixteen}
 use Rattle.fab_dump.proofs.rows.lanes_left.Goals as goal
 
 pub loop-level-preserved : goal.loop-level-preserved

@@ -1,6 +1,6 @@
 use Rattle.std.proofs.Common.{◌<◌, length, get_or, ◌∙◌, ap, arith}
 use Rattle.fab_tables.specs.LaneTables.{LaneTables, with_lane}
-use Rattle.fab_dump.proofs.LaneMaps.{one_lane_more}
+use Rattle.fab_dump.proofs.Reading.LaneMaps.{one_lane_more}
 use Rattle.fab_dump.proofs.statements.set_map.Goals as goal
 
 pub loop-level-preserved : goal.loop-level-preserved

@@ -3,7 +3,7 @@ use Rattle.std.specs.Prelude.{codes}
 use Rattle.std.specs.List.{flat_map, enumerate_from}
 use Rattle.std.proofs.lemmas.Result.{err_from_is_err_and}
 use Rattle.fab_dump.specs.Writing.{levels_block, map_block, number_lines, lane_lines}
-use Rattle.fab_dump.proofs.WritingParts.{lane_parts, stopped_in_first, stopped_in_second, stopped_in_third, four_put}
+use Rattle.fab_dump.proofs.Writing.Parts.{lane_parts, stopped_in_first, stopped_in_second, stopped_in_third, four_put}
 use Rattle.fab_dump.proofs.write.put_lanes.Goals as goal
 
 pub returns-in_err-put_levels : goal.returns-in_err-put_levels

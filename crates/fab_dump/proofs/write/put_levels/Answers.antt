@@ -1,7 +1,7 @@
 use Rattle.std.proofs.Common.{◌<◌, length, arith}
 use Rattle.std.proofs.lemmas.Result.{err_from_is_err_and}
 use Rattle.fab_dump.specs.Writing.{levels_block}
-use Rattle.fab_dump.proofs.WritingLoops.{rows_put, row_refused, row_put, row_stopped}
+use Rattle.fab_dump.proofs.Writing.Loops.{rows_put, row_refused, row_put, row_stopped}
 use Rattle.fab_dump.proofs.write.put_levels.Goals as goal
 
 pub returns-in_err-push_levels_block : goal.returns-in_err-push_levels_block

@@ -3,7 +3,7 @@ use Rattle.std.specs.Prelude.{codes}
 use Rattle.std.specs.List.{flat_map, enumerate_from}
 use Rattle.std.proofs.lemmas.Result.{err_from_is_err_and}
 use Rattle.fab_dump.specs.Writing.{lines_text, version_text, lanes_line, table_block, lane_part, plan_lines}
-use Rattle.fab_dump.proofs.WritingParts.{plan_parts, new_put, stopped_in_first, stopped_in_second, stopped_in_third, four_put}
+use Rattle.fab_dump.proofs.Writing.Parts.{plan_parts, new_put, stopped_in_first, stopped_in_second, stopped_in_third, four_put}
 use Rattle.fab_dump.proofs.write.write_plan.Goals as goal
 
 pub returns-in_err-put-clause-text : goal.returns-in_err-put-clause-text

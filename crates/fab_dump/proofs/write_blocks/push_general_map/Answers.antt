@@ -2,8 +2,8 @@ use Rattle.std.proofs.Common.{refl, ◌++◌, ◌∷◌, [], ap, List, ℕ, ◌�
 use Rattle.std.proofs.lemmas.Result.{IfOk-equal}
 use Rattle.fab_dump.specs.Lines.{map_head}
 use Rattle.fab_dump.specs.Writing.{guid_head_text, general_map, lanes_text}
-use Rattle.fab_dump.proofs.WritingLanes.{general_lanes}
-use Rattle.fab_dump.proofs.WritingRows.{two_lines}
+use Rattle.fab_dump.proofs.Writing.Lanes.{general_lanes}
+use Rattle.fab_dump.proofs.Writing.Rows.{two_lines}
 use Rattle.fab_dump.proofs.write_blocks.push_general_map.Goals as goal
 
 pub push_lanes-requires : goal.push_lanes-requires

@@ -1,7 +1,7 @@
 use Rattle.std.proofs.Common.{◌≡◌, ◌++◌, ◌∷◌, ◌-◌, ℕ, List, length, get_or, take, drop, sym, ap, ◌∙◌, arith}
 use Rattle.std.proofs.lemmas.List.{drop_more, take_rest}
 use Rattle.fab_dump.specs.Writing.{lanes_text}
-use Rattle.fab_dump.proofs.WritingRows.{lanes_done}
+use Rattle.fab_dump.proofs.Writing.Rows.{lanes_done}
 use Rattle.fab_dump.proofs.write_blocks.push_lanes.Goals as goal
 
 pub returns : goal.returns

@@ -1,5 +1,5 @@
 use Rattle.std.proofs.lemmas.Result.{IfOk-equal}
-use Rattle.fab_dump.proofs.WritingRows.{lids_done}
+use Rattle.fab_dump.proofs.Writing.Rows.{lids_done}
 use Rattle.fab_dump.proofs.write_blocks.push_lids.Goals as goal
 
 pub returns : goal.returns

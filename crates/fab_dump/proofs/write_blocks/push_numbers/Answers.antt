@@ -3,7 +3,7 @@ use Rattle.std.specs.Prelude.{option_map, unwrap_or}
 use Rattle.fab_model.specs.declared.rows.SwitchRow.{SwitchRow}
 use Rattle.fab_model.specs.Topology.{guid_of}
 use Rattle.fab_dump.specs.Writing.{lines_text, number_row, number_line}
-use Rattle.fab_dump.proofs.WritingRows.{lines_of_number}
+use Rattle.fab_dump.proofs.Writing.Rows.{lines_of_number}
 use Rattle.fab_dump.proofs.write_blocks.push_numbers.Goals as goal
 
 pub loop-lane-preserved : goal.loop-lane-preserved

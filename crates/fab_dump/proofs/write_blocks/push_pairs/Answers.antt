@@ -1,6 +1,6 @@
 use Rattle.std.proofs.Common.{arith}
 use Rattle.std.specs.Prelude.{slice_get}
-use Rattle.fab_dump.proofs.WritingPairs.{of_this, begun, none_yet, one_on, pair_added, begin_next, pairs_done, others_later, pair_map}
+use Rattle.fab_dump.proofs.Writing.Pairs.{of_this, begun, none_yet, one_on, pair_added, begin_next, pairs_done, others_later, pair_map}
 use Rattle.fab_dump.proofs.write_blocks.push_pairs.Goals as goal
 
 pub loop-next-init : goal.loop-next-init

@@ -1,5 +1,5 @@
 use Rattle.fab_dump.specs.BlockValues.{value_text}
-use Rattle.fab_dump.proofs.WritingRows.{row_done}
+use Rattle.fab_dump.proofs.Writing.Rows.{row_done}
 use Rattle.fab_dump.proofs.write_blocks.push_row.Goals as goal
 
 pub returns : goal.returns

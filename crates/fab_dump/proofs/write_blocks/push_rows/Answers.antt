@@ -2,7 +2,7 @@ use Rattle.std.proofs.Common.{◌++◌, ◌*◌, ◌<◌, ℕ, List, length, ref
 use Rattle.fab_model.specs.Topology.{lids_of}
 use Rattle.fab_dump.specs.BlockValues.{value_text}
 use Rattle.fab_dump.specs.Writing.{numbered_row, row_text}
-use Rattle.fab_dump.proofs.WritingRows.{line_added, row_lids_are}
+use Rattle.fab_dump.proofs.Writing.Rows.{line_added, row_lids_are}
 use Rattle.fab_dump.proofs.write_blocks.push_rows.Goals as goal
 
 pub loop-number-preserved : goal.loop-number-preserved

@@ -1,4 +1,4 @@
-use Rattle.fab_dump.proofs.WritingRows.{some_lid}
+use Rattle.fab_dump.proofs.Writing.Rows.{some_lid}
 use Rattle.fab_dump.proofs.write_blocks.push_table_block.Goals as goal
 
 pub push_table_head-requires : goal.push_table_head-requires

@@ -1,5 +1,5 @@
 use Rattle.std.proofs.Common.{arith}
-use Rattle.fab_tables.proofs.Places.{one_more_written, all_written}
+use Rattle.fab_tables.proofs.Rows.Places.{one_more_written, all_written}
 use Rattle.fab_tables.proofs.columns.places_of.Goals as goal
 
 pub loop-place-preserved : goal.loop-place-preserved

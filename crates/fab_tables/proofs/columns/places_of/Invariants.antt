@@ -1,4 +1,4 @@
-use Rattle.fab_tables.proofs.Places.{AreWritten}
+use Rattle.fab_tables.proofs.Rows.Places.{AreWritten}
 use Rattle.fab_tables.proofs.columns.places_of.Given as goal
 
 abbrev pub invariant-loop-place : goal.invariant-loop-place

@@ -2,7 +2,7 @@ use Rattle.std.proofs.Common.{◌≡◌, ◌∙◌, ℕ, Option, None, Vec, Glob
 use Rattle.std.specs.Prelude.{IsSome}
 use Rattle.std.proofs.lemmas.List.{get_or_read, with_items_is}
 use Rattle.fab_tables.specs.Components.{component_of}
-use Rattle.fab_tables.proofs.Search.{some_found, is_there, one_more_has, components_found}
+use Rattle.fab_tables.proofs.Joined.Search.{some_found, is_there, one_more_has, components_found}
 use Rattle.fab_tables.proofs.components.number_components.Goals as goal
 use Rattle.fab_tables.proofs.components.number_components.Goals.{then-is_none+in_ok-number_component, else-is_none}
 

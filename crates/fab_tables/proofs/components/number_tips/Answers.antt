@@ -1,7 +1,7 @@
 use Rattle.std.proofs.Common.{◌≡◌, ◌<◌, ◌∙◌, None, length, refl, arith}
 use Rattle.fab_tables.specs.Components.{component_of}
-use Rattle.fab_tables.proofs.Search.{none_found, some_found, pending_below, to_front, keeps_others}
-use Rattle.fab_tables.proofs.Tips.{tip_within, numbers_new, numbers_old, one_more, tips_done}
+use Rattle.fab_tables.proofs.Joined.Search.{none_found, some_found, pending_below, to_front, keeps_others}
+use Rattle.fab_tables.proofs.Joined.Tips.{tip_within, numbers_new, numbers_old, one_more, tips_done}
 use Rattle.fab_tables.proofs.components.number_tips.Goals as goal
 use Rattle.fab_tables.proofs.components.number_tips.Goals.{then-is_none+in_ok-push, else-is_none}
 

@@ -1,7 +1,7 @@
 -- The switch is the first pending one, and the tips so far have the number.
 use Rattle.std.proofs.Common.{◌≡◌, ◌+◌, length, count_by, is_none}
 use Rattle.fab_tables.specs.Searching.{KeepsNumbers}
-use Rattle.fab_tables.proofs.Tips.{IsNumberingTips}
+use Rattle.fab_tables.proofs.Joined.Tips.{IsNumberingTips}
 use Rattle.fab_tables.proofs.components.number_tips.Given as goal
 
 abbrev pub invariant-loop-channel : goal.invariant-loop-channel

@@ -1,9 +1,9 @@
 use Rattle.std.proofs.Common.{sym, ◌∙◌, ap, arith}
 use Rattle.fab_tables.specs.HopsAhead.{HopsAhead}
-use Rattle.fab_tables.proofs.LevelsLow.{level_low}
-use Rattle.fab_tables.proofs.StartFaults.{none_found}
-use Rattle.fab_tables.proofs.HopFaults.{right_clear}
-use Rattle.fab_tables.proofs.HopsJudged.{judging_starts, judging_ends, channel_low, hop_low, tail_low, judging_finds, judging_stops, judging_goes}
+use Rattle.fab_tables.proofs.Rows.LevelsLow.{level_low}
+use Rattle.fab_tables.proofs.Faults.StartFaults.{none_found}
+use Rattle.fab_tables.proofs.Faults.HopFaults.{right_clear}
+use Rattle.fab_tables.proofs.Faults.HopsJudged.{judging_starts, judging_ends, channel_low, hop_low, tail_low, judging_finds, judging_stops, judging_goes}
 use Rattle.fab_tables.proofs.judging.first_hop_fault.Goals as goal
 
 pub loop-hop-init : goal.loop-hop-init

@@ -1,4 +1,4 @@
-use Rattle.fab_tables.proofs.HopsJudged.{IsJudging}
+use Rattle.fab_tables.proofs.Faults.HopsJudged.{IsJudging}
 use Rattle.fab_tables.proofs.judging.first_hop_fault.Given as goal
 
 abbrev pub invariant-loop-hop : goal.invariant-loop-hop

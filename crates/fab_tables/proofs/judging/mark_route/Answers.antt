@@ -1,7 +1,7 @@
 use Rattle.std.proofs.Common.{◌∙◌, ap, arith}
 use Rattle.fab_tables.specs.Ahead.{Ahead}
-use Rattle.fab_tables.proofs.Ways.{stepped, goes_on, channel_low, to_tip, tip_low}
-use Rattle.fab_tables.proofs.Judged.{room_more, keeps_first, keeps_more}
+use Rattle.fab_tables.proofs.Paths.Ways.{stepped, goes_on, channel_low, to_tip, tip_low}
+use Rattle.fab_tables.proofs.Faults.Judged.{room_more, keeps_first, keeps_more}
 use Rattle.fab_tables.proofs.judging.mark_route.Goals as goal
 
 pub loop-channel-init : goal.loop-channel-init

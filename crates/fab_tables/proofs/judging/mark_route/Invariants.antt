@@ -1,5 +1,5 @@
 use Rattle.fab_tables.specs.Judged.{IsRoomFor, KeepsJudged}
-use Rattle.fab_tables.proofs.Ways.{IsOnWay}
+use Rattle.fab_tables.proofs.Paths.Ways.{IsOnWay}
 use Rattle.fab_tables.proofs.judging.mark_route.Given as goal
 
 abbrev pub invariant-loop-channel : goal.invariant-loop-channel

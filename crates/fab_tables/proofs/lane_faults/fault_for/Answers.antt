@@ -6,11 +6,11 @@ use Rattle.fab_model.specs.Connected.{AreConnected}
 use Rattle.fab_tables.specs.declared.verdict.Verdict.{Verdict}
 use Rattle.fab_tables.specs.LaneFaults.{IsSoughtAt}
 use Rattle.fab_tables.specs.Judged.{AreJudged}
-use Rattle.fab_tables.proofs.FallingRoutes.{place_below}
-use Rattle.fab_tables.proofs.RouteFaults.{apart_by}
-use Rattle.fab_tables.proofs.StartFaults.{IsLaneChoice, IsClear, none_found, none_is, start_at, start_low, clear_apart, one_clear_more, found_clear, none_from_starts, found_first}
-use Rattle.fab_tables.proofs.SoughtFaults.{sought_faults}
-use Rattle.fab_tables.proofs.Judged.{cleared}
+use Rattle.fab_tables.proofs.Paths.FallingRoutes.{place_below}
+use Rattle.fab_tables.proofs.Faults.RouteFaults.{apart_by}
+use Rattle.fab_tables.proofs.Faults.StartFaults.{IsLaneChoice, IsClear, none_found, none_is, start_at, start_low, clear_apart, one_clear_more, found_clear, none_from_starts, found_first}
+use Rattle.fab_tables.proofs.Faults.SoughtFaults.{sought_faults}
+use Rattle.fab_tables.proofs.Faults.Judged.{cleared}
 use Rattle.fab_tables.proofs.lane_faults.fault_for.Goals as goal
 use Rattle.fab_tables.proofs.lane_faults.fault_for.Goals.{then-are_connected+else-is_some, else-are_connected}
 

@@ -1,6 +1,6 @@
 use Rattle.fab_tables.specs.LaneFaults.{IsSoughtAt}
 use Rattle.fab_tables.specs.Judged.{AreJudged}
-use Rattle.fab_tables.proofs.StartFaults.{AreClear}
+use Rattle.fab_tables.proofs.Faults.StartFaults.{AreClear}
 use Rattle.fab_tables.proofs.lane_faults.fault_for.Given as goal
 
 abbrev pub invariant-loop-start : goal.invariant-loop-start

@@ -1,7 +1,7 @@
 use Rattle.std.proofs.Common.{◌≡◌, Bool, true, false, Some, None, Option, refl, not}
 use Rattle.std.specs.Prelude.{is_some}
 use Rattle.fab_tables.specs.declared.verdict.Verdict.{Verdict}
-use Rattle.fab_tables.proofs.Judged.{right_from}
+use Rattle.fab_tables.proofs.Faults.Judged.{right_from}
 use Rattle.fab_tables.proofs.lane_faults.fault_from.Goals as goal
 
 nothing : (o : Option Verdict) (b : Bool) → is_some o ≡ not b → b ≡ true → o ≡ None

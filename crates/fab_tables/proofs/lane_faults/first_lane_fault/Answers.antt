@@ -1,8 +1,8 @@
 use Rattle.std.proofs.Common.{sym, ◌∙◌, arith}
 use Rattle.fab_model.specs.Topology.{lids_of}
 use Rattle.fab_model.proofs.LidsInUse.{as_many, lid_there}
-use Rattle.fab_tables.proofs.StartFaults.{none_found, none_by_lid, first_by_lid, one_lid_clear}
-use Rattle.fab_tables.proofs.SoughtFaults.{sought_faults}
+use Rattle.fab_tables.proofs.Faults.StartFaults.{none_found, none_by_lid, first_by_lid, one_lid_clear}
+use Rattle.fab_tables.proofs.Faults.SoughtFaults.{sought_faults}
 use Rattle.fab_tables.proofs.lane_faults.first_lane_fault.Goals as goal
 
 pub returns-then-is_some-clause-fault : goal.returns-then-is_some-clause-fault

@@ -1,4 +1,4 @@
-use Rattle.fab_tables.proofs.PlainVerdicts
+use Rattle.fab_tables.proofs.Verdicts.PlainVerdicts
 use Rattle.fab_tables.proofs.laws.plain_verdict_agrees.Goals as goal
 
 pub returns : goal.returns

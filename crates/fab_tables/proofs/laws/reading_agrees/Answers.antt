@@ -1,4 +1,4 @@
-use Rattle.fab_tables.proofs.ReadLanes
+use Rattle.fab_tables.proofs.Rows.ReadLanes
 use Rattle.fab_tables.proofs.laws.reading_agrees.Goals as goal
 
 pub returns : goal.returns

@@ -1,4 +1,4 @@
-use Rattle.fab_tables.proofs.VerdictExists
+use Rattle.fab_tables.proofs.Verdicts.VerdictExists
 use Rattle.fab_tables.proofs.laws.verdict_exists.Goals as goal
 
 pub returns : goal.returns

@@ -2,7 +2,7 @@ use Rattle.std.proofs.Common.{sym, ◌∙◌, ap}
 use Rattle.std.specs.Prelude.{find, ◌==◌}
 use Rattle.fab_tables.specs.declared.lanes.PairRow.{PairRow}
 use Rattle.fab_tables.specs.LaneTables.{pair_key}
-use Rattle.fab_tables.proofs.PairRows.{pair_found, pair_missing}
+use Rattle.fab_tables.proofs.Rows.PairRows.{pair_found, pair_missing}
 use Rattle.fab_tables.proofs.pairs.pair_in.Goals as goal
 
 pub returns-in-Ok : goal.returns-in-Ok

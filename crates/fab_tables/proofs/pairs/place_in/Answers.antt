@@ -5,7 +5,7 @@ use Rattle.std.proofs.lemmas.Bool.{ltb-true, ltb-false}
 use Rattle.std.proofs.lemmas.List.Sorted.{IsPartitionPoint-from_clause, IsPartitionedBy-ltb}
 use Rattle.fab_tables.specs.declared.lanes.PairRow.{PairRow}
 use Rattle.fab_tables.specs.LaneTables.{pair_key}
-use Rattle.fab_tables.proofs.PairRows.{keys_not_fall}
+use Rattle.fab_tables.proofs.Rows.PairRows.{keys_not_fall}
 use Rattle.fab_tables.proofs.pairs.place_in.Goals as goal
 
 pub returns : goal.returns

@@ -1,6 +1,6 @@
 use Rattle.std.proofs.Common.{◌∙◌, ap}
 use Rattle.fab_tables.specs.LaneTables.{pair_key}
-use Rattle.fab_tables.proofs.PairRows.{goes_there}
+use Rattle.fab_tables.proofs.Rows.PairRows.{goes_there}
 use Rattle.fab_tables.proofs.pairs.search_in.Goals as goal
 
 pub returns-in_default-clause-missing : goal.returns-in_default-clause-missing

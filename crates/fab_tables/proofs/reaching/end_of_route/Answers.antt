@@ -1,5 +1,5 @@
 use Rattle.std.proofs.Common.{sym, arith}
-use Rattle.fab_tables.proofs.Ways.{goes_on, channel_low, tip_low, delivered_by}
+use Rattle.fab_tables.proofs.Paths.Ways.{goes_on, channel_low, tip_low, delivered_by}
 use Rattle.fab_tables.proofs.reaching.end_of_route.Goals as goal
 
 pub tip-requires : goal.tip-requires

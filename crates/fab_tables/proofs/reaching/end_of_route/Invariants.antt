@@ -1,4 +1,4 @@
-use Rattle.fab_tables.proofs.Ways.{IsOnWay}
+use Rattle.fab_tables.proofs.Paths.Ways.{IsOnWay}
 use Rattle.fab_tables.proofs.reaching.end_of_route.Given as goal
 
 abbrev pub invariant-loop-channel : goal.invariant-loop-channel

@@ -1,8 +1,8 @@
 use Rattle.std.proofs.Common.{sym, ◌∙◌, arith}
 use Rattle.fab_model.specs.Topology.{lids_of}
 use Rattle.fab_model.proofs.LidsInUse.{as_many, lid_there}
-use Rattle.fab_tables.proofs.RouteFaults.{none_by_lid, first_by_lid, one_lid_clear}
-use Rattle.fab_tables.proofs.StartFaults.{none_found}
+use Rattle.fab_tables.proofs.Faults.RouteFaults.{none_by_lid, first_by_lid, one_lid_clear}
+use Rattle.fab_tables.proofs.Faults.StartFaults.{none_found}
 use Rattle.fab_tables.proofs.reaching.first_unreached.Goals as goal
 
 pub returns-then-is_some : goal.returns-then-is_some

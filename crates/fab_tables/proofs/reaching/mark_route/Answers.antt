@@ -1,5 +1,5 @@
 use Rattle.std.proofs.Common.{arith}
-use Rattle.fab_tables.proofs.Ways.{goes_on, channel_low, tip_low, delivered_on, marks_more}
+use Rattle.fab_tables.proofs.Paths.Ways.{goes_on, channel_low, tip_low, delivered_on, marks_more}
 use Rattle.fab_tables.proofs.reaching.mark_route.Goals as goal
 
 pub tip-tip-requires : goal.tip-tip-requires

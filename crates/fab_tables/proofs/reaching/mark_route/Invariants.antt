@@ -1,5 +1,5 @@
 use Rattle.fab_tables.specs.Reaching.{AreDelivered}
-use Rattle.fab_tables.proofs.Ways.{IsOnWay}
+use Rattle.fab_tables.proofs.Paths.Ways.{IsOnWay}
 use Rattle.fab_tables.proofs.reaching.mark_route.Given as goal
 
 abbrev pub invariant-loop-channel : goal.invariant-loop-channel

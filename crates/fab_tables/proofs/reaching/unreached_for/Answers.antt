@@ -1,8 +1,8 @@
 use Rattle.std.proofs.Common.{◌≡◌, length, Some, sym, ◌∙◌, ap, subst, arith}
 use Rattle.fab_model.specs.Topology.{Topology, place_of}
 use Rattle.fab_model.specs.Connected.{AreConnected}
-use Rattle.fab_tables.proofs.FallingRoutes.{place_below}
-use Rattle.fab_tables.proofs.RouteFaults.{none_for_lid, first_for_lid}
+use Rattle.fab_tables.proofs.Paths.FallingRoutes.{place_below}
+use Rattle.fab_tables.proofs.Faults.RouteFaults.{none_for_lid, first_for_lid}
 use Rattle.fab_tables.proofs.reaching.unreached_for.Goals as goal
 
 pub are_connected-requires-clause-second : goal.are_connected-requires-clause-second

@@ -1,5 +1,5 @@
 use Rattle.std.proofs.Common.{sym, subst}
-use Rattle.fab_tables.proofs.HopsTaken.{AreLow, channels_low}
+use Rattle.fab_tables.proofs.Paths.HopsTaken.{AreLow, channels_low}
 use Rattle.fab_tables.proofs.route_hops.hops.Goals as goal
 
 pub invariant_of-result : goal.invariant_of-result

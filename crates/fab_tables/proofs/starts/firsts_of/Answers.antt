@@ -2,8 +2,8 @@ use Rattle.std.proofs.Common.{◌≡◌, ◌+◌, ◌++◌, ◌∷◌, [], List,
 use Rattle.std.proofs.lemmas.Bool.{eqb-true}
 use Rattle.std.proofs.lemmas.Option.{slice_get-get_or}
 use Rattle.fab_tables.specs.declared.starts.Start.{Start}
-use Rattle.fab_tables.proofs.StartFaults.{same_option, start_at}
-use Rattle.fab_tables.proofs.FirstStarts.{AreFirstsSoFar, all_firsts, same_source, next_source}
+use Rattle.fab_tables.proofs.Faults.StartFaults.{same_option, start_at}
+use Rattle.fab_tables.proofs.Faults.FirstStarts.{AreFirstsSoFar, all_firsts, same_source, next_source}
 use Rattle.fab_tables.proofs.starts.firsts_of.Goals as goal
 use Rattle.fab_tables.proofs.starts.firsts_of.Goals.{then-ne+in_ok-push, else-ne}
 

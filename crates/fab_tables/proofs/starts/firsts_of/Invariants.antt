@@ -1,4 +1,4 @@
-use Rattle.fab_tables.proofs.FirstStarts.{AreFirstsSoFar}
+use Rattle.fab_tables.proofs.Faults.FirstStarts.{AreFirstsSoFar}
 use Rattle.fab_tables.proofs.starts.firsts_of.Given as goal
 
 abbrev pub invariant-loop-start : goal.invariant-loop-start

@@ -1,7 +1,7 @@
 use Rattle.std.proofs.Common.{◌∙◌, ap, map, arith}
 use Rattle.std.proofs.lemmas.List.{take_all}
 use Rattle.fab_tables.specs.Starts.{start_of}
-use Rattle.fab_tables.proofs.StartsSorted.{one_start_more, sorted_starts}
+use Rattle.fab_tables.proofs.Faults.StartsSorted.{one_start_more, sorted_starts}
 use Rattle.fab_tables.proofs.starts.starts_of.Goals as goal
 
 pub loop-index-preserved : goal.loop-index-preserved

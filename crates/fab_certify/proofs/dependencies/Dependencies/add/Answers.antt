@@ -2,7 +2,7 @@ use Rattle.std.proofs.Common.{◌<◌, length, sym, ap, subst, arith, true}
 use Rattle.std.specs.Prelude.{Some, slice_set}
 use Rattle.fab_rings.specs.EdgeList.{EdgeList}
 use Rattle.fab_certify.specs.Collected.{Collected, AddsHop}
-use Rattle.fab_certify.proofs.HopsAdded.{adds_next, edge_pushed, follower_pushed}
+use Rattle.fab_certify.proofs.Collected.HopsAdded.{adds_next, edge_pushed, follower_pushed}
 use Rattle.fab_certify.proofs.dependencies.Dependencies.add.Goals as goal
 
 pub invariant_of-self : goal.invariant_of-self

@@ -1,6 +1,6 @@
 use Rattle.std.proofs.Common.{◌∷◌, ◌-◌, ◌∙◌, sym, ap, take, drop}
 use Rattle.fab_dump.specs.FieldsLeft.{fields_left}
-use Rattle.fab_dump.proofs.FieldParts.{word_next, no_word}
+use Rattle.fab_dump.proofs.Reading.FieldParts.{word_next, no_word}
 use Rattle.fab_dump.proofs.fields.Fields.next.Goals as goal
 
 pub returns-in-Some : goal.returns-in-Some

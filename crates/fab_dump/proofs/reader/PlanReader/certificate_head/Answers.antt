@@ -2,7 +2,7 @@ use Rattle.std.proofs.Common.{◌∙◌, sym, []}
 use Rattle.fab_dump.specs.declared.fault.PlanFault.TheVariants.{TwiceBlock}
 use Rattle.fab_dump.specs.declared.form.Block.TheVariants.{Numbers}
 use Rattle.fab_dump.specs.Given.Given.{Certificate}
-use Rattle.fab_dump.proofs.AfterHeads.{lanes_head, chosen_next, passed_next, new_added, old_refused, after_certificate}
+use Rattle.fab_dump.proofs.Reading.AfterHeads.{lanes_head, chosen_next, passed_next, new_added, old_refused, after_certificate}
 use Rattle.fab_dump.proofs.reader.PlanReader.certificate_head.Goals as goal
 
 pub returns-then-not-has_lanes : goal.returns-then-not-has_lanes

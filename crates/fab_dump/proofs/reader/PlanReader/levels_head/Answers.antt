@@ -4,7 +4,7 @@ use Rattle.fab_dump.specs.declared.fault.PlanFault.TheVariants.{TwiceBlock, BadL
 use Rattle.fab_dump.specs.declared.form.Block.TheVariants.{Levels}
 use Rattle.fab_dump.specs.Given.Given.{LevelBlock}
 use Rattle.fab_dump.specs.Lines.{a_source, opens}
-use Rattle.fab_dump.proofs.AfterHeads.{lanes_head, chosen_next, passed_next, named, not_named, source_named, says_same}
+use Rattle.fab_dump.proofs.Reading.AfterHeads.{lanes_head, chosen_next, passed_next, named, not_named, source_named, says_same}
 use Rattle.fab_dump.proofs.reader.PlanReader.levels_head.Goals as goal
 
 pub returns-then-not-has_lanes : goal.returns-then-not-has_lanes

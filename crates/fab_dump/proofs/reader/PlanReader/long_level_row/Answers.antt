@@ -3,13 +3,13 @@ use Rattle.std.proofs.lemmas.List.{get_or_read, length-take-le}
 use Rattle.fab_text.specs.Fields.{fields}
 use Rattle.fab_model.specs.Topology.{lids_of, switch_id}
 use Rattle.fab_dump.specs.Lines.{level_field}
-use Rattle.fab_tables.proofs.Ascending.{lids_are}
+use Rattle.fab_tables.proofs.Joined.Ascending.{lids_are}
 use Rattle.fab_dump.specs.declared.fault.PlanFault.TheVariants.{BadLevelRow}
 use Rattle.fab_dump.specs.declared.form.Block.TheVariants.{Levels}
 use Rattle.fab_dump.specs.Given.Given.{Level}
-use Rattle.fab_dump.proofs.AfterRows.{level_mark}
-use Rattle.fab_dump.proofs.LongBlocks.{row_twice, row_new}
-use Rattle.fab_dump.proofs.LongRows.{row_of, values_of}
+use Rattle.fab_dump.proofs.Reading.AfterRows.{level_mark}
+use Rattle.fab_dump.proofs.Reading.LongBlocks.{row_twice, row_new}
+use Rattle.fab_dump.proofs.Reading.LongRows.{row_of, values_of}
 use Rattle.fab_dump.proofs.reader.PlanReader.long_level_row.Goals as goal
 
 pub returns-then-index : goal.returns-then-index

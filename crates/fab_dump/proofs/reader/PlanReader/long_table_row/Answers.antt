@@ -2,13 +2,13 @@ use Rattle.std.proofs.Common.{Some, ◌<◌, length, take, arith, false}
 use Rattle.std.proofs.lemmas.List.{get_or_read, length-take-le}
 use Rattle.fab_text.specs.Fields.{fields, dec}
 use Rattle.fab_model.specs.Topology.{lids_of, switch_id}
-use Rattle.fab_tables.proofs.Ascending.{lids_are}
+use Rattle.fab_tables.proofs.Joined.Ascending.{lids_are}
 use Rattle.fab_dump.specs.declared.fault.PlanFault.TheVariants.{BadRow}
 use Rattle.fab_dump.specs.declared.form.Block.TheVariants.{Table}
 use Rattle.fab_dump.specs.Given.Given.{Port}
-use Rattle.fab_dump.proofs.AfterRows.{port_mark}
-use Rattle.fab_dump.proofs.LongBlocks.{row_twice, row_new}
-use Rattle.fab_dump.proofs.LongRows.{row_of, values_of}
+use Rattle.fab_dump.proofs.Reading.AfterRows.{port_mark}
+use Rattle.fab_dump.proofs.Reading.LongBlocks.{row_twice, row_new}
+use Rattle.fab_dump.proofs.Reading.LongRows.{row_of, values_of}
 use Rattle.fab_dump.proofs.reader.PlanReader.long_table_row.Goals as goal
 
 pub returns-then-index : goal.returns-then-index

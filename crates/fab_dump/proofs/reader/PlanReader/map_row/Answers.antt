@@ -3,8 +3,8 @@ use Rattle.std.specs.Prelude.{if◌then◌else◌}
 use Rattle.fab_dump.specs.declared.form.Block.TheVariants.{Nothing, Pairs}
 use Rattle.fab_dump.specs.Lines.{map_row, has_pairs, after_map_row}
 use Rattle.fab_dump.specs.Standing.{IsWithin}
-use Rattle.fab_dump.proofs.AfterRows.{after_map}
-use Rattle.fab_dump.proofs.LaneBlocks.{block_after_map}
+use Rattle.fab_dump.proofs.Reading.AfterRows.{after_map}
+use Rattle.fab_dump.proofs.Reading.LaneBlocks.{block_after_map}
 use Rattle.fab_dump.proofs.reader.PlanReader.map_row.Goals as goal
 use Rattle.fab_dump.proofs.reader.PlanReader.map_row.Goals.{then-has_pairs, else-has_pairs}
 

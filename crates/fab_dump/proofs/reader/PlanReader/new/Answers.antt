@@ -1,6 +1,6 @@
 use Rattle.std.proofs.Common.{◌≡◌, ◌∙◌, ap, refl, false, replicate, length}
 use Rattle.fab_model.specs.Topology.{lids_of}
-use Rattle.fab_dump.proofs.Begun.{begun}
+use Rattle.fab_dump.proofs.Reading.Begun.{begun}
 use Rattle.fab_dump.proofs.reader.PlanReader.new.Goals as goal
 
 pub returns : goal.returns

@@ -3,9 +3,9 @@ use Rattle.fab_dump.specs.declared.fault.PlanFault.TheVariants.{TwiceRow}
 use Rattle.fab_dump.specs.declared.form.Block.TheVariants.{Numbers}
 use Rattle.fab_dump.specs.Given.Given.{Number}
 use Rattle.fab_dump.specs.Lines.{adds_number}
-use Rattle.fab_dump.proofs.AfterHeads.{new_added, old_refused}
-use Rattle.fab_dump.proofs.AfterRows.{after_number}
-use Rattle.fab_dump.proofs.LaneBlocks.{number_mark}
+use Rattle.fab_dump.proofs.Reading.AfterHeads.{new_added, old_refused}
+use Rattle.fab_dump.proofs.Reading.AfterRows.{after_number}
+use Rattle.fab_dump.proofs.Reading.LaneBlocks.{number_mark}
 use Rattle.fab_dump.proofs.reader.PlanReader.number_row.Goals as goal
 
 pub returns-then-has_number : goal.returns-then-has_number

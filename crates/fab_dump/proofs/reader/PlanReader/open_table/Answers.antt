@@ -2,7 +2,7 @@ use Rattle.std.proofs.Common.{◌∙◌, sym, ap, arith, false, ◌<◌, length,
 use Rattle.std.proofs.lemmas.List.{get_or_read}
 use Rattle.fab_dump.specs.declared.fault.PlanFault.TheVariants.{TwiceBlock}
 use Rattle.fab_dump.specs.Given.Given.{TableBlock}
-use Rattle.fab_dump.proofs.AfterHeads.{after_table_head, new_added}
+use Rattle.fab_dump.proofs.Reading.AfterHeads.{after_table_head, new_added}
 use Rattle.fab_dump.proofs.reader.PlanReader.open_table.Goals as goal
 
 pub returns : goal.returns

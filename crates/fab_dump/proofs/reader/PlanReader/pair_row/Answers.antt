@@ -1,8 +1,8 @@
 use Rattle.std.proofs.Common.{sym, ap, ◌∙◌, Err, Bool, Result}
 use Rattle.fab_tables.specs.declared.lanes.PairFault.{PairFault}
 use Rattle.fab_dump.specs.Lines.{adds_pair}
-use Rattle.fab_dump.proofs.AfterRows.{after_pair}
-use Rattle.fab_dump.proofs.LaneBlocks.{pair_goes, pair_twice, pair_too_many}
+use Rattle.fab_dump.proofs.Reading.AfterRows.{after_pair}
+use Rattle.fab_dump.proofs.Reading.LaneBlocks.{pair_goes, pair_twice, pair_too_many}
 use Rattle.fab_dump.proofs.reader.PlanReader.pair_row.Goals as goal
 
 pub returns-in-Ok-true : goal.returns-in-Ok-true

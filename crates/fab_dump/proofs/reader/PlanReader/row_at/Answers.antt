@@ -1,7 +1,7 @@
 use Rattle.std.proofs.Common.{sym, ap, ◌∙◌, subst, min, ◌-◌}
 use Rattle.fab_dump.specs.FieldsLeft.{AreRowLids}
 use Rattle.fab_dump.specs.Lines.{row_lids}
-use Rattle.fab_dump.proofs.LongRows.{row_found}
+use Rattle.fab_dump.proofs.Reading.LongRows.{row_found}
 use Rattle.fab_dump.proofs.reader.PlanReader.row_at.Goals as goal
 
 pub returns-clause-row : goal.returns-clause-row

@@ -1,4 +1,4 @@
-use Rattle.std.proofs.Common.{◌∷◌, [], ◌++◌, Some, true, sym, ap, subst, ◌∙◌, arith}
+use Rattle.std.proofs.Common.{◌∷◌, [], ◌++◌, true, sym, ap, subst, ◌∙◌, arith}
 use Rattle.std.specs.Prelude.{slice_get}
 use Rattle.std.specs.Vec.{with_item}
 use Rattle.fab_model.specs.Topology.{Topology, lids_of, switch_id}
@@ -6,8 +6,8 @@ use Rattle.fab_model.proofs.LidsInUse.{as_many, contains_lid}
 use Rattle.fab_dump.specs.declared.form.Block.TheVariants.{Levels}
 use Rattle.fab_dump.specs.Given.Given.{Level}
 use Rattle.fab_dump.specs.Standing.{Stands}
-use Rattle.fab_dump.proofs.AfterRows.{after_level_at}
-use Rattle.fab_dump.proofs.ShortRows.{lanes_contain}
+use Rattle.fab_dump.proofs.Reading.AfterRows.{after_level_at}
+use Rattle.fab_dump.proofs.Reading.ShortRows.{lanes_contain}
 use Rattle.fab_dump.proofs.reader.PlanReader.set_level.Goals as goal
 
 pub returns-clause-stands : goal.returns-clause-stands

@@ -6,7 +6,7 @@ use Rattle.fab_model.proofs.LidsInUse.{as_many, contains_lid}
 use Rattle.fab_dump.specs.declared.form.Block.TheVariants.{Table}
 use Rattle.fab_dump.specs.Given.Given.{Port}
 use Rattle.fab_dump.specs.Standing.{Stands}
-use Rattle.fab_dump.proofs.AfterRows.{after_port_at}
+use Rattle.fab_dump.proofs.Reading.AfterRows.{after_port_at}
 use Rattle.fab_dump.proofs.reader.PlanReader.set_port.Goals as goal
 
 pub returns-clause-stands : goal.returns-clause-stands

@@ -1,4 +1,4 @@
-use Rattle.std.proofs.Common.{ℕ, ◌+◌, ◌<◌, length, refl, ap, ◌∙◌, Some, arith, drop}
+use Rattle.std.proofs.Common.{ℕ, length, refl, ap, ◌∙◌, Some, arith, drop}
 use Rattle.std.specs.List.{zip}
 use Rattle.std.proofs.lemmas.List.{length-map}
 use Rattle.std.proofs.lemmas.Slice.Zip.{length-zip}
@@ -6,7 +6,7 @@ use Rattle.fab_model.specs.Topology.{Topology, lids_of, switch_id}
 use Rattle.fab_dump.specs.declared.form.Block.TheVariants.{Table}
 use Rattle.fab_dump.specs.Given.{said_of}
 use Rattle.fab_dump.specs.Given.Given.{Port}
-use Rattle.fab_dump.proofs.LongRows.{none_said, all_said, one_value_said}
+use Rattle.fab_dump.proofs.Reading.LongRows.{none_said, all_said, one_value_said}
 use Rattle.fab_dump.proofs.reader.PlanReader.set_ports.Goals as goal
 
 pub loop-index-init : goal.loop-index-init

@@ -6,9 +6,9 @@ use Rattle.fab_dump.specs.declared.fault.PlanFault.TheVariants.{TwiceRow, BadLev
 use Rattle.fab_dump.specs.declared.form.Block.TheVariants.{Levels}
 use Rattle.fab_dump.specs.Given.Given.{Level}
 use Rattle.fab_dump.specs.Lines.Next.{Fails}
-use Rattle.fab_dump.proofs.ShortRows.{row_in_use, lanes_contain, has_place}
-use Rattle.fab_dump.proofs.AfterRows.{after_level, level_mark}
-use Rattle.fab_dump.proofs.AfterHeads.{new_added, old_refused}
+use Rattle.fab_dump.proofs.Reading.ShortRows.{row_in_use, lanes_contain, has_place}
+use Rattle.fab_dump.proofs.Reading.AfterRows.{after_level, level_mark}
+use Rattle.fab_dump.proofs.Reading.AfterHeads.{new_added, old_refused}
 use Rattle.fab_dump.proofs.reader.PlanReader.short_level_row.Goals as goal
 
 pub returns-then-index : goal.returns-then-index

@@ -6,9 +6,9 @@ use Rattle.fab_dump.specs.declared.fault.PlanFault.TheVariants.{TwiceRow, BadRow
 use Rattle.fab_dump.specs.declared.form.Block.TheVariants.{Table}
 use Rattle.fab_dump.specs.Given.Given.{Port}
 use Rattle.fab_dump.specs.Lines.Next.{Goes}
-use Rattle.fab_dump.proofs.ShortRows.{row_in_use, has_place}
-use Rattle.fab_dump.proofs.AfterRows.{after_port, port_mark}
-use Rattle.fab_dump.proofs.AfterHeads.{new_added, old_refused}
+use Rattle.fab_dump.proofs.Reading.ShortRows.{row_in_use, has_place}
+use Rattle.fab_dump.proofs.Reading.AfterRows.{after_port, port_mark}
+use Rattle.fab_dump.proofs.Reading.AfterHeads.{new_added, old_refused}
 use Rattle.fab_dump.proofs.reader.PlanReader.short_table_row.Goals as goal
 
 pub returns-then-index : goal.returns-then-index

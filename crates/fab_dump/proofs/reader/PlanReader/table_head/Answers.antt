@@ -1,6 +1,6 @@
 use Rattle.std.proofs.Common.{◌∙◌, sym, ap}
 use Rattle.fab_dump.specs.Lines.{says_one_lid}
-use Rattle.fab_dump.proofs.AfterHeads.{chosen_next, not_named, strange_head, after_strange_head}
+use Rattle.fab_dump.proofs.Reading.AfterHeads.{chosen_next, not_named, strange_head, after_strange_head}
 use Rattle.fab_dump.proofs.reader.PlanReader.table_head.Goals as goal
 
 pub returns : goal.returns

@@ -4,7 +4,7 @@ use Rattle.fab_model.specs.declared.rows.Lid.{Lid}
 use Rattle.fab_model.specs.Topology.{lids_of}
 use Rattle.fab_model.proofs.LidsInUse.{as_many, one_lid_more}
 use Rattle.fab_tables.specs.Columns.{AreLids, HasPlaces}
-use Rattle.fab_tables.proofs.Ascending.{lids_are}
+use Rattle.fab_tables.proofs.Joined.Ascending.{lids_are}
 use Rattle.fab_tables.proofs.columns.Columns.of.Goals as goal
 
 pub loop-lid-preserved : goal.loop-lid-preserved

@@ -2,7 +2,7 @@ use Rattle.std.proofs.Common.{◌≡◌, ◌∙◌, ap, arith}
 use Rattle.std.specs.Prelude.{slice_index}
 use Rattle.std.proofs.lemmas.List.{get_or_read}
 use Rattle.fab_tables.specs.Entries.{index_of}
-use Rattle.fab_tables.proofs.Places.{place_within, place_read}
+use Rattle.fab_tables.proofs.Rows.Places.{place_within, place_read}
 use Rattle.fab_tables.proofs.columns.Columns.place.Goals as goal
 
 pub returns : goal.returns

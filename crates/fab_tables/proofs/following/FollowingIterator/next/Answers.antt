@@ -1,6 +1,6 @@
 use Rattle.std.proofs.Common.{◌≡◌, suc, ◌-◌, length, Some, ap, rules, arith}
 use Rattle.fab_tables.specs.Ahead.{ahead, StepsTo}
-use Rattle.fab_tables.proofs.Steps.{tip_within, stepped, stopped}
+use Rattle.fab_tables.proofs.Paths.Steps.{tip_within, stepped, stopped}
 use Rattle.fab_tables.proofs.following.FollowingIterator.next.Goals as goal
 
 pub invariant_of-self-in-Ok : goal.invariant_of-self-in-Ok

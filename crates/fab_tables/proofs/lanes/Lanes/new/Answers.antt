@@ -1,7 +1,7 @@
 use Rattle.std.proofs.Common.{◌*◌, length, replicate, refl, sym, ◌∙◌, ap, subst}
 use Rattle.fab_model.specs.Topology.{lids_of}
 use Rattle.fab_tables.specs.LaneTables.{AreLaneTables}
-use Rattle.fab_tables.proofs.LaneSets.{made, new_kept}
+use Rattle.fab_tables.proofs.Rows.LaneSets.{made, new_kept}
 use Rattle.fab_tables.proofs.lanes.Lanes.new.Goals as goal
 
 pub invariant_of-result : goal.invariant_of-result

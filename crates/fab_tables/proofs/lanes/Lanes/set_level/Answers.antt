@@ -3,7 +3,7 @@ use Rattle.std.proofs.lemmas.List.{map-set}
 use Rattle.fab_tables.specs.LaneBytes.{lane_tables}
 use Rattle.fab_tables.specs.LevelBytes.{level_of_byte}
 use Rattle.fab_tables.specs.LaneTables.{LaneTables, AreLaneTables, with_level}
-use Rattle.fab_tables.proofs.LaneSets.{level_set, level_set_kept}
+use Rattle.fab_tables.proofs.Rows.LaneSets.{level_set, level_set_kept}
 use Rattle.fab_tables.proofs.lanes.Lanes.set_level.Goals as goal
 
 pub invariant_of-self : goal.invariant_of-self

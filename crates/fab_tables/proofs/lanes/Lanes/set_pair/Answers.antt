@@ -8,8 +8,8 @@ use Rattle.fab_tables.specs.declared.lanes.PairRow.{PairRow}
 use Rattle.fab_tables.specs.LaneBytes.{lane_tables}
 use Rattle.fab_tables.specs.PairPlaces.{StandsAt, GoesTo}
 use Rattle.fab_tables.specs.LaneTables.{LaneTables, AreLaneTables, IsPairRow, pair_key, with_pair}
-use Rattle.fab_tables.proofs.PairRows.{pair_set, pair_set_keys, pair_inserted, pair_inserted_keys, pair_is_nowhere}
-use Rattle.fab_tables.proofs.LaneSets.{pairs_kept}
+use Rattle.fab_tables.proofs.Rows.PairRows.{pair_set, pair_set_keys, pair_inserted, pair_inserted_keys, pair_is_nowhere}
+use Rattle.fab_tables.proofs.Rows.LaneSets.{pairs_kept}
 use Rattle.fab_tables.proofs.lanes.Lanes.set_pair.Goals as goal
 use Rattle.fab_tables.proofs.lanes.Lanes.set_pair.Goals.{in-Ok-insert, in-Err-insert}
 

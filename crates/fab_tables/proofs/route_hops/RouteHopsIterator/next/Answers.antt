@@ -1,4 +1,4 @@
-use Rattle.fab_tables.proofs.HopsTaken.{first_low, rest_low, leaves_low}
+use Rattle.fab_tables.proofs.Paths.HopsTaken.{first_low, rest_low, leaves_low}
 use Rattle.fab_tables.proofs.route_hops.RouteHopsIterator.next.Goals as goal
 
 pub channel-row-requires : goal.channel-row-requires

@@ -2,7 +2,7 @@ use Rattle.std.proofs.Common.{◌≡◌, List, sym, ◌∙◌, ap, subst}
 use Rattle.std.proofs.lemmas.List.{nil_from_length}
 use Rattle.fab_tables.specs.declared.starts.Start.{Start}
 use Rattle.fab_tables.specs.Starts.{StartLists, AreStartsFor}
-use Rattle.fab_tables.proofs.FirstStarts.{all_stand, firsts_stand}
+use Rattle.fab_tables.proofs.Faults.FirstStarts.{all_stand, firsts_stand}
 use Rattle.fab_tables.proofs.starts.Starts.standing.Goals as goal
 
 pub returns-then-pairs-eq0 : goal.returns-then-pairs-eq0

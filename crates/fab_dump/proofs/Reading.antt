@@ -1,0 +1,23 @@
+-- Plan texts, read line by line.
+pub mod After
+pub mod AfterHeads
+pub mod AfterRows
+pub mod Begun
+pub mod FieldNumbers
+pub mod FieldParts
+pub mod FirstLines
+pub mod LaneBlocks
+pub mod LaneMaps
+pub mod LaneSteps
+pub mod LongBlocks
+pub mod LongRows
+pub mod Marks
+pub mod Orderly
+pub mod PairSteps
+pub mod PlanRead
+pub mod PlansFit
+pub mod PlansOver
+pub mod ReadTidy
+pub mod RowFacts
+pub mod RowValues
+pub mod ShortRows

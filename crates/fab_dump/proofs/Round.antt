@@ -1,0 +1,24 @@
+-- Plan texts that are written and read again.
+pub mod Blocks
+pub mod Cells
+pub mod Folds
+pub mod Fresh
+pub mod Lanes
+pub mod Leads
+pub mod Lines
+pub mod LinesLanes
+pub mod LinesPlaces
+pub mod LinesTables
+pub mod LinesWords
+pub mod Maps
+pub mod Numbers
+pub mod Pairs
+pub mod Plans
+pub mod Rows
+pub mod Said
+pub mod Stages
+pub mod Tables
+pub mod Texts
+pub mod Writes
+pub mod WrittenFields
+pub mod WrittenNumbers

@@ -1,0 +1,353 @@
+//! What no clause says: texts that others print, read; the words of faults; limits met; a write that stops.
+ghost use Rattle.std.specs.Prelude.{◌≡◌, Contains};
+ghost use Rattle.fab_model.specs.Topology.{lids_of};
+
+use crate::{WriteFault, read_plan, write_plan};
+use fab_io::MemorySink;
+use fab_model::{ChannelId, Desc, Fabric, Lid, NodeKind, Raw, RawLink, RawNode, SwitchId};
+use fab_tables::{Lanes, PairRow, Plan, Tables};
+use fab_text::push_dec;
+use std::alloc::Global;
+use std::process::Abort;
+use std::test::Fail;
+
+// What `ibroute` prints of the first switch.
+const DUMP: &[u8] =
+    b"Unicast lids [0x0001-0x0003] of switch Lid 1 guid 0x0000000000010000 (switch 0):\n\
+0x0001 000 : (Switch portguid 0x0000000000010000: 'switch 0')\n\
+0x0002 001 : (Switch portguid 0x0000000000010001: 'switch 1')\n\
+0x0003 002 : (Channel Adapter portguid 0x0000000000020000: 'node 0')\n";
+
+// A plan in version 1.
+const VERSION_1: &[u8] = b"fabroute plan 1\nlanes 2\n\
+Unicast lids guid 0x10000\n0x1 0 :\n0x2 1 :\n0x3 2 :\n\
+Levels of switch guid 0x10000:\n0x0001 --\n0x0002 00\n0x0003 01\n\
+Lane map of switch guid 0x10000:\n00 01 15 15 15 15 15 15 15 15 15 15 15 15 15 15\n\
+Certificate:\nend plan\nnot read\n";
+
+// A plan in version 3.
+const VERSION_3: &[u8] = b"fabroute plan 3\nlanes 2\n\
+Unicast lids guid 0x10000\n0x1 0 1 2\n\
+Levels of switch guid 0x10000:\n0x0001 -- 00 01\n\
+Lane map of switch guid 0x10000:\n00 01 15 15 15 15 15 15 15 15 15 15 15 15 15 15\n\
+[001 002] 01 15 15 15 15 15 15 15 15 15 15 15 15 15 15 15\n\
+end plan\n";
+
+// Level 0 on lane 0, and all others on lane 15.
+const ONE_LANE: [u8; 16] = [
+    0, 15, 15, 15, 15, 15, 15, 15, 15, 15, 15, 15, 15, 15, 15, 15,
+];
+
+const WITH_A_PAIR: &[u8] = b"fabroute plan 3\n\
+lanes 15\n\
+Unicast lids [0x0001-0x0003] of switch Lid 1 guid 0x0000000000010000 (switch 0):\n\
+0x0001 000 001 002\n\
+Unicast lids [0x0001-0x0003] of switch Lid 2 guid 0x0000000000010001 (switch 1):\n\
+0x0001 001 000 001\n\
+Levels of switch guid 0x0000000000010000:\n\
+0x0001 -- 15 --\n\
+Lane map of switch guid 0x0000000000010000:\n\
+15 15 15 15 15 15 15 15 15 15 15 15 15 15 15 15\n\
+Lane map of switch guid 0x0000000000010001:\n\
+15 15 15 15 15 15 15 15 15 15 15 15 15 15 15 15\n\
+[001 000] 00 15 15 15 15 15 15 15 15 15 15 15 15 15 15 15\n\
+Certificate:\n\
+0x0000000000010001 001 14 4294967295\n\
+end plan\n";
+
+fn node(line: u32, kind: NodeKind, guid: u64, ports: u32, lid: u32, desc: Desc) -> RawNode
+    ensures { result.line ≡ line }
+{
+    RawNode {
+        line,
+        kind,
+        guid,
+        ports,
+        lid,
+        lmc: 0,
+        desc,
+    }
+}
+
+fn link(line: u32, node: u32, port: u32, far_kind: NodeKind, far_guid: u64) -> RawLink
+    ensures line { result.line ≡ line }
+    ensures node { result.node ≡ node }
+{
+    RawLink {
+        line,
+        node,
+        port,
+        far_kind,
+        far_guid,
+        far_port: 1,
+        port_guid: 0,
+        lid: 0,
+        lmc: 0,
+    }
+}
+
+// Two switches cabled to each other, and a terminal at the first.
+fn stub(alloc: Global) -> Result<Fabric, Fail> {
+    let mut raw = Raw::new(alloc);
+    raw.push_node(node(1, NodeKind::Switch, 0x10000, 2, 1, Desc::new(b"switch 0")))?;
+    raw.push_link(link(2, 0, 1, NodeKind::Switch, 0x10001))?;
+    raw.push_link(link(3, 0, 2, NodeKind::Adapter, 0x20000))?;
+    raw.push_node(node(4, NodeKind::Switch, 0x10001, 1, 2, Desc::new(b"switch 1")))?;
+    raw.push_link(link(5, 1, 1, NodeKind::Switch, 0x10000))?;
+    raw.push_node(node(6, NodeKind::Adapter, 0x20000, 1, 0, Desc::new(b"node 0")))?;
+    raw.push_link(RawLink {
+        line: 7,
+        node: 2,
+        port: 1,
+        far_kind: NodeKind::Switch,
+        far_guid: 0x10000,
+        far_port: 2,
+        port_guid: 0x20000,
+        lid: 3,
+        lmc: 0,
+    })?;
+    Ok(Fabric::build(alloc, &raw)?)
+}
+
+// So many switches, without cables.
+fn switches_alone(alloc: Global, count: u32) -> Result<Fabric, Fail> {
+    let mut raw = Raw::new(alloc);
+    for index in 0..count {
+        let guid = 0x10 + u64::from(index);
+        raw.push_node(node(
+            index + 1,
+            NodeKind::Switch,
+            guid,
+            254,
+            index + 1,
+            Desc::new(b""),
+        ))?;
+    }
+    Ok(Fabric::build(alloc, &raw)?)
+}
+
+// The LID at a place of the ascending list of those in use.
+#[tactic(auto, using(fab_tables::proofs::Joined::Ascending::lid_in_use))]
+fn nth_lid(rt: &impl Abort, fabric: &Fabric, index: u32) -> Lid
+    ensures { Contains (lids_of fabric.now) result.0 }
+{
+    fabric.lid_at(index).expect(rt, "a LID")
+}
+
+fn set_entry(rt: &impl Abort, fabric: &Fabric, plan: &mut Plan, at: (u32, u32), port: u8) {
+    let (switch, index) = at;
+    assert!(rt; plan.fits(fabric));
+    assert!(rt; switch < fabric.switches());
+    let lid = nth_lid(rt, fabric, index);
+    plan.tables.set(SwitchId(switch), lid, port);
+}
+
+// Routes to the three LIDs, without lanes.
+fn routes(rt: &impl Abort, alloc: Global, fabric: &Fabric) -> Result<Plan, Fail> {
+    let mut plan = Plan {
+        tables: Tables::new(alloc, fabric)?,
+        lanes: None,
+    };
+    let ports = [[0, 1, 2], [1, 0, 1]];
+    for switch in 0..2 {
+        for index in 0..3 {
+            let port = ports[switch as usize][index as usize];
+            set_entry(rt, fabric, &mut plan, (switch, index), port);
+        }
+    }
+    Ok(plan)
+}
+
+// One level, one number, and a pair of ports with a map.
+fn lanes_with_a_pair(rt: &impl Abort, alloc: Global, fabric: &Fabric) -> Result<Lanes, Fail> {
+    assert_eq!(rt; fabric.switches(), 2);
+    assert_eq!(rt; fabric.channels(), 2);
+    let mut lanes = Lanes::new(alloc, fabric, 15)?;
+    lanes.set_level(SwitchId(0), nth_lid(rt, fabric, 1), Some(15));
+    lanes.set_number(ChannelId(1), 14, u32::MAX);
+    let row = PairRow {
+        switch: SwitchId(1),
+        from_port: 1,
+        to_port: 0,
+        map: ONE_LANE,
+    };
+    let set = lanes.set_pair(row).is_ok();
+    assert!(rt; set);
+    Ok(lanes)
+}
+
+fn ports(rt: &impl Abort, plan: &Plan, fabric: &Fabric) -> [u8; 3] {
+    assert_eq!(rt; fabric.switches(), 2);
+    assert!(rt; plan.fits(fabric));
+    [1, 2, 3].map(|lid| plan.tables.get(SwitchId(0), Lid(lid)))
+}
+
+fn levels(rt: &impl Abort, plan: &Plan, fabric: &Fabric) -> [Option<u8>; 3] {
+    assert_eq!(rt; fabric.switches(), 2);
+    assert!(rt; plan.fits(fabric));
+    match &plan.lanes {
+        Some(lanes) => [1, 2, 3].map(|lid| lanes.level(SwitchId(0), Lid(lid))),
+        None => [None; 3],
+    }
+}
+
+// The lane of level 0 by the switch's map, and by that of the ports 1 and 2.
+fn lanes_of_level_0(rt: &impl Abort, plan: &Plan, fabric: &Fabric) -> [u8; 2] {
+    assert_eq!(rt; fabric.switches(), 2);
+    assert!(rt; plan.fits(fabric));
+    match &plan.lanes {
+        Some(lanes) => [
+            lanes.lane(SwitchId(0), 0),
+            lanes.lane_at(SwitchId(0), 1, 2, 0),
+        ],
+        None => [15; 2],
+    }
+}
+
+fn told(
+    rt: &impl Abort,
+    alloc: Global,
+    fabric: &Fabric,
+    text: &[u8],
+    fault: &str,
+) -> Result<(), Fail> {
+    assert!(rt; text.len() < 10_000_000);
+    match read_plan(alloc, fabric, text) {
+        Ok(_) => assert!(rt; false, "{fault}"),
+        Err(why) => {
+            let told = format!(in alloc; "{why}")?;
+            assert_eq!(rt; told.as_str(), fault);
+        }
+    }
+    Ok(())
+}
+
+// The map of each pair of ports of two switches with 254 ports.
+fn pairs_text(alloc: Global) -> Result<Vec<u8>, Fail> {
+    let row = b"] 00 15 15 15 15 15 15 15 15 15 15 15 15 15 15 15\n".as_slice();
+    let mut text = Vec::new(alloc);
+    text.extend_from_slice(b"fabroute plan 3\nlanes 1\n")?;
+    for guid in [b"0x10:\n".as_slice(), b"0x11:\n"] {
+        text.extend_from_slice(b"Lane map of switch guid ")?;
+        text.extend_from_slice(guid)?;
+        text.extend_from_slice(&row[2..])?;
+        for from in 0..255 {
+            for to in 0..255 {
+                text.extend_from_slice(b"[")?;
+                push_dec(&mut text, from)?;
+                text.extend_from_slice(b" ")?;
+                push_dec(&mut text, to)?;
+                text.extend_from_slice(row)?;
+            }
+        }
+    }
+    Ok(text)
+}
+
+#[test]
+fn plain_dump(rt: HostRuntime) -> Result<(), Fail> {
+    let fabric = stub(rt.alloc())?;
+    let plan = read_plan(rt.alloc(), &fabric, DUMP)?;
+    assert_eq!(rt; ports(&rt, &plan, &fabric), [0, 1, 2]);
+    assert!(rt; plan.lanes.is_none());
+    Ok(())
+}
+
+#[test]
+fn plan_of_version_1(rt: HostRuntime) -> Result<(), Fail> {
+    let fabric = stub(rt.alloc())?;
+    let plan = read_plan(rt.alloc(), &fabric, VERSION_1)?;
+    assert_eq!(rt; ports(&rt, &plan, &fabric), [0, 1, 2]);
+    assert_eq!(rt; levels(&rt, &plan, &fabric), [None, Some(0), Some(1)]);
+    assert_eq!(rt; lanes_of_level_0(&rt, &plan, &fabric), [0, 0]);
+    Ok(())
+}
+
+#[test]
+fn plan_of_version_3(rt: HostRuntime) -> Result<(), Fail> {
+    let fabric = stub(rt.alloc())?;
+    let plan = read_plan(rt.alloc(), &fabric, VERSION_3)?;
+    assert_eq!(rt; ports(&rt, &plan, &fabric), [0, 1, 2]);
+    assert_eq!(rt; levels(&rt, &plan, &fabric), [None, Some(0), Some(1)]);
+    assert_eq!(rt; lanes_of_level_0(&rt, &plan, &fabric), [0, 1]);
+    Ok(())
+}
+
+#[test]
+fn faults(rt: HostRuntime) -> Result<(), Fail> {
+    let fabric = stub(rt.alloc())?;
+    for (text, fault) in [
+        ("fabroute plan 4\n", "line 1: unknown version"),
+        ("fabroute plan 2\nlanes 1\n", "no end"),
+        ("Unicast lids guid 0x10000\n0x1 256\n", "line 2: bad row"),
+        (
+            "Unicast lids guid 0x10000\n0x1 0\n0x9 0\n0x1 0\n",
+            "line 4: row given twice",
+        ),
+        (
+            "fabroute plan 2\nlanes 1\nCertificate:\nCertificate:\n",
+            "line 4: block given twice",
+        ),
+        (
+            "fabroute plan 2\nlanes 1\nLevels of switch guid 0x11:\n",
+            "line 3: bad level row",
+        ),
+        (
+            "fabroute plan 2\nlanes 1\nLane map of switch guid 0x10000:\nend plan\n",
+            "line 4: bad lane row",
+        ),
+        (
+            "fabroute plan 2\nlanes 1\nCertificate:\n0x10000 2 0 1\n",
+            "line 4: bad number row",
+        ),
+    ] {
+        told(&rt, rt.alloc(), &fabric, text.as_bytes(), fault)?;
+    }
+    Ok(())
+}
+
+#[test]
+fn too_many_switches_for_version_1(rt: HostRuntime) -> Result<(), Fail> {
+    let fabric = switches_alone(rt.alloc(), 513)?;
+    let text = b"fabroute plan 1\nlanes none\nend plan\n";
+    told(&rt, rt.alloc(), &fabric, text, "line 1: unknown version")
+}
+
+#[test]
+fn too_many_pairs(rt: HostRuntime) -> Result<(), Fail> {
+    let fabric = switches_alone(rt.alloc(), 2)?;
+    let text = pairs_text(rt.alloc())?;
+    told(
+        &rt,
+        rt.alloc(),
+        &fabric,
+        &text,
+        "line 65543: too many pair maps",
+    )
+}
+
+#[test]
+fn plan_with_a_pair(rt: HostRuntime) -> Result<(), Fail> {
+    let fabric = stub(rt.alloc())?;
+    let mut plan = routes(&rt, rt.alloc(), &fabric)?;
+    plan.lanes = Some(lanes_with_a_pair(&rt, rt.alloc(), &fabric)?);
+    assert!(rt; plan.fits(&fabric));
+    let mut sink = MemorySink::new(rt.alloc());
+    write_plan(rt.alloc(), &fabric, &plan, &mut sink)?;
+    assert!(rt; sink.bytes() == WITH_A_PAIR);
+    Ok(())
+}
+
+// The second put fails once it kept 7 bytes of the first table block.
+#[test]
+fn write_stops(rt: HostRuntime) -> Result<(), Fail> {
+    let fabric = stub(rt.alloc())?;
+    let plan = routes(&rt, rt.alloc(), &fabric)?;
+    assert!(rt; plan.fits(&fabric));
+    let mut sink = MemorySink::new(rt.alloc());
+    sink.fail(2, 7)?;
+    let outcome = write_plan(rt.alloc(), &fabric, &plan, &mut sink);
+    assert!(rt; matches!(outcome, Err(WriteFault::Failed)));
+    assert!(rt; sink.bytes() == b"fabroute plan 2\nlanes none\nUnicast".as_slice());
+    Ok(())
+}

@@ -1,0 +1,14 @@
+-- Routes, and walks along trees.
+pub mod FallingRoutes
+pub mod HopsTaken
+pub mod LoopRepeats
+pub mod Loops
+pub mod RisingTrees
+pub mod RouteTurns
+pub mod Routes
+pub mod RoutesBehind
+pub mod SameRoutes
+pub mod Steps
+pub mod TreeRoutes
+pub mod TreeWalks
+pub mod Ways
