@@ -1,0 +1,7 @@
+pub mod Cabling
+pub mod Laying
+pub mod Recipes
+pub mod Shown
+pub mod Loads
+pub mod Summary
+pub mod Laws
