@@ -24,7 +24,7 @@ load_is_small t e channel is =
     omega (arith, sum, lids_are_counted t, is.rows.lid_count)
 
 -- a route goes along no more channels than it may
-route_short : (t : Topology) (e : Entries) (lid n s : ℕ) → length (route_within t e lid n s).channels ≤ n
+pub route_short : (t : Topology) (e : Entries) (lid n s : ℕ) → length (route_within t e lid n s).channels ≤ n
 route_short t e lid zero s = omega arith
 route_short t e lid (suc n) s = go (λ next. route_short t e lid n next) (hop_by t lid s (entry e s lid))
   where

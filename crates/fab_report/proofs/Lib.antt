@@ -14,3 +14,4 @@ pub mod Drawing
 pub mod TerminalLists
 pub mod RegularRows
 pub mod NodeRows
+pub mod LoadSums

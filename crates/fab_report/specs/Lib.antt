@@ -3,5 +3,6 @@ pub mod Laying
 pub mod Recipes
 pub mod Shown
 pub mod Loads
+pub mod Counting
 pub mod Summary
 pub mod Laws

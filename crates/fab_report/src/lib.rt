@@ -2,6 +2,7 @@
 #![tactic(auto)]
 
 mod cables;
+mod ends;
 mod laws;
 mod lines;
 mod loads;
