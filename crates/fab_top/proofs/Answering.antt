@@ -14,18 +14,25 @@ use Rattle.fab_tables.proofs.Verdicts.VerdictExists.{verdict_exists}
 use Rattle.fab_certify.proofs.Exists.Certificates.{certificate_exists}
 use Rattle.fab_certify.proofs.OneCertificate.{one_certificate}
 use Rattle.fab_dump.specs.Writing.{plan_text}
+use Rattle.fab_netdiscover.specs.Writing.{text_of}
+use Rattle.fab_report.specs.Loads.{loads_of}
+use Rattle.fab_report.specs.Recipes.{generated}
 use Rattle.fab_top.specs.declared.command.Command.{Command}
-use Rattle.fab_top.specs.declared.command.Command.TheVariants.{Check, Certify, Convert}
+use Rattle.fab_top.specs.declared.command.Command.TheVariants.{Check, Certify, Convert, Load, Gen}
 use Rattle.fab_top.specs.Answer.{Answer, done}
-use Rattle.fab_top.specs.Answers.{IsAnswerTo, IsCheckAnswer, IsCertifyAnswer, IsPlanText, verdict_answer, certified_answer, usage}
-use Rattle.fab_top.specs.Headline.{KeepsHeadlineOf, ChecksTruly, CertifiesTruly, ConvertsTruly}
+use Rattle.fab_top.specs.Answers.{IsAnswerTo, IsCheckAnswer, IsCertifyAnswer, IsPlanText, IsLoadAnswer, verdict_answer, certified_answer, usage}
+use Rattle.fab_top.specs.Headline.{KeepsHeadlineOf, ChecksTruly, CertifiesTruly, ConvertsTruly, IsDone}
 use Rattle.fab_top.specs.Laws.{OneAnswer, AnswersKeepHeadline, StatusIsSmall, AnswerExists}
 use Rattle.fab_top.specs.Ran.{files_of}
+use Rattle.fab_top.specs.ReportTexts.{load_text}
 use Rattle.fab_top.specs.Seen.{Seen, WithPlan, WithBoth}
 use Rattle.fab_top.specs.Words.{command_of}
 use Rattle.fab_top.proofs.AfterFiles.{IsTold, HasRightAnswer, IsReadPlan, fabric_weaker, fabric_one, fabric_small, fabric_exists, plan_weaker, plan_one, plan_small, plan_exists}
 use Rattle.fab_top.proofs.Certifying.{certificate_keeps, certificate_is_small, plan_keeps, plan_is_small}
+use Rattle.fab_top.proofs.Generating.{done_is_small, generates_truly}
 use Rattle.fab_top.proofs.Judging.{true_verdict, verdict_keeps, verdict_is_small}
+use Rattle.fab_top.proofs.Loading.{load_keeps}
+use Rattle.fab_top.proofs.SpelledCommands.{HasFittingRecipe, has_fitting_recipe}
 
 -- ---- after a fabric and a plan of it
 
@@ -88,6 +95,9 @@ one_answer_to w (Some (Certify fabric plan)) a b told first second =
     both_one w fabric plan IsCertifyAnswer a b told (λ t p read x y. one_certified t p a b read.fits x y) first second
 one_answer_to w (Some (Convert fabric plan)) a b told first second =
     both_one w fabric plan IsPlanText a b told (λ t p read x y. x ∙ sym y) first second
+one_answer_to w (Some (Load fabric plan)) a b told first second =
+    both_one w fabric plan IsLoadAnswer a b told (λ t p read x y. x ∙ sym y) first second
+one_answer_to w (Some (Gen recipe)) a b told first second = first ∙ sym second
 
 pub one_answer : OneAnswer
 one_answer w a b told first second = one_answer_to w (command_of w.words) a b told first second
@@ -103,14 +113,24 @@ certify_keeps t p a read is = certificate_keeps t p is.0 a read.fabric read.fits
 convert_keeps : (t : Topology) (p : Plan) (a : Answer) → IsReadPlan t p → IsPlanText t p a → ConvertsTruly t p a
 convert_keeps t p a read is = plan_keeps t p a read.fabric read.fits read.tidy is
 
-keeps_by : (w : Seen) (command : Option Command) (a : Answer) → AnswersIt w command a → MatchOption command (Unit {0}) (λ c. KeepsHeadlineOf w c a)
-keeps_by w None a is = tt
-keeps_by w (Some (Check fabric plan)) a is = both_weaker w fabric plan IsCheckAnswer ChecksTruly a (λ t p read x. check_keeps t p a read x) is
-keeps_by w (Some (Certify fabric plan)) a is = both_weaker w fabric plan IsCertifyAnswer CertifiesTruly a (λ t p read x. certify_keeps t p a read x) is
-keeps_by w (Some (Convert fabric plan)) a is = both_weaker w fabric plan IsPlanText ConvertsTruly a (λ t p read x. convert_keeps t p a read x) is
+abbrev IfFitting : Option Command → Type 0
+IfFitting None = Unit {0}
+IfFitting (Some command) = HasFittingRecipe command
+
+keeps_by : (w : Seen) (command : Option Command) (a : Answer) → IfFitting command → AnswersIt w command a → MatchOption command (Unit {0}) (λ c. KeepsHeadlineOf w c a)
+keeps_by w None a fitting is = tt
+keeps_by w (Some (Check fabric plan)) a fitting is = both_weaker w fabric plan IsCheckAnswer ChecksTruly a (λ t p read x. check_keeps t p a read x) is
+keeps_by w (Some (Certify fabric plan)) a fitting is = both_weaker w fabric plan IsCertifyAnswer CertifiesTruly a (λ t p read x. certify_keeps t p a read x) is
+keeps_by w (Some (Convert fabric plan)) a fitting is = both_weaker w fabric plan IsPlanText ConvertsTruly a (λ t p read x. convert_keeps t p a read x) is
+keeps_by w (Some (Load fabric plan)) a fitting is = both_weaker w fabric plan IsLoadAnswer IsDone a (λ t p read x. load_keeps t p a x) is
+keeps_by w (Some (Gen recipe)) a fitting is = generates_truly recipe a fitting is
+
+if_fitting : (words : List (List ℕ)) (command : Option Command) → command_of words ≡ command → IfFitting command
+if_fitting words None e = tt
+if_fitting words (Some command) e = has_fitting_recipe words command e
 
 pub answers_keep_headline : AnswersKeepHeadline
-answers_keep_headline w a is = keeps_by w (command_of w.words) a is
+answers_keep_headline w a is = keeps_by w (command_of w.words) a (if_fitting w.words (command_of w.words) refl) is
 
 -- ---- statuses
 
@@ -125,6 +145,9 @@ small_by w (Some (Certify fabric plan)) a told is =
     both_small w fabric plan IsCertifyAnswer a told (λ t p x. certificate_is_small t p x.0 a x.2) is
 small_by w (Some (Convert fabric plan)) a told is =
     both_small w fabric plan IsPlanText a told (λ t p x. plan_is_small t p a x) is
+small_by w (Some (Load fabric plan)) a told is =
+    both_small w fabric plan IsLoadAnswer a told (λ t p x. done_is_small (load_text t (loads_of t p.tables)) a x) is
+small_by w (Some (Gen recipe)) a told is = at_most_3 a.status (done_is_small (text_of (generated recipe)) a is)
 
 pub status_is_small : StatusIsSmall
 status_is_small w a told is = small_by w (command_of w.words) a told is
@@ -143,6 +166,8 @@ exists_by w None told = (usage, refl)
 exists_by w (Some (Check fabric plan)) told = both_exist w fabric plan IsCheckAnswer told exists_check
 exists_by w (Some (Certify fabric plan)) told = both_exist w fabric plan IsCertifyAnswer told exists_certify
 exists_by w (Some (Convert fabric plan)) told = both_exist w fabric plan IsPlanText told (λ t p read. (done (plan_text t p), refl))
+exists_by w (Some (Load fabric plan)) told = both_exist w fabric plan IsLoadAnswer told (λ t p read. (done (load_text t (loads_of t p.tables)), refl))
+exists_by w (Some (Gen recipe)) told = (done (text_of (generated recipe)), refl)
 
 pub answer_exists : AnswerExists
 answer_exists w told = exists_by w (command_of w.words) told

@@ -6,7 +6,11 @@ pub mod Running
 pub mod Judging
 pub mod Taking
 pub mod Certifying
+pub mod WordNumbers
 pub mod Wording
+pub mod SpelledCommands
 pub mod ReadFits
 pub mod AfterFiles
+pub mod Generating
+pub mod Loading
 pub mod Answering

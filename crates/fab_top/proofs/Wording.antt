@@ -1,14 +1,12 @@
 -- Words that no command has.
-use Rattle.std.proofs.Common.{◌≡◌, ℕ, ◌<◌, Bool, true, false, List, [], ◌∷◌, length, Option, None, Some, String, refl, subst, sym, ◌∙◌, ap, arith, codes, slice_index_or, Err}
+use Rattle.std.proofs.Common.{◌≡◌, ℕ, ◌<◌, Bool, true, false, List, [], ◌∷◌, length, Option, None, Some, String, refl, subst, sym, ◌∙◌, ap, arith, codes, slice_index_or}
 use Rattle.std.specs.Prelude.{option_map, option_and_then, find, if◌then◌else◌}
 use Rattle.std.specs.Str.{bytes_eq}
 use Rattle.std.specs.String.{string_bytes}
 use Rattle.std.proofs.lemmas.Slice.Eq.{bytes_eq-Decides}
 use Rattle.std.specs.Bool.{Decides}
 use Rattle.fab_top.specs.declared.command.Command.{Command}
-use Rattle.fab_top.specs.declared.words.WordsFault.TheVariants.{Words}
-use Rattle.fab_top.specs.ReadWords.{or_unknown}
-use Rattle.fab_top.specs.Words.{texts, named, command_of, commands}
+use Rattle.fab_top.specs.Words.{texts, named, kinds, gen_words, command_of, commands}
 
 -- a word that a table does not begin with is looked for behind
 other_word : (b : Bool) (xs ys : List ℕ) → Decides b (xs ≡ ys) → (ys ≡ xs → ⊥) → b ≡ false
@@ -30,10 +28,22 @@ not_named : {A : Type 0} (table : List (List ℕ × A)) (word : List ℕ) → Is
 not_named [] word others = refl
 not_named (row ∷ table) word others = past_word row table word others.0 ∙ not_named table word others.1
 
+pub no_such_kind : (word : List ℕ) → (word ≡ codes "ring" → ⊥) → (word ≡ codes "torus" → ⊥) → (word ≡ codes "tree" → ⊥) → (word ≡ codes "random" → ⊥) → None ≡ named kinds word
+no_such_kind word ring torus tree random = sym (not_named kinds word (ring, (torus, (tree, (random, tt)))))
+
+pub no_recipe : {Z : Type 0} (others : List (String Z)) → (length others ≡ 4 → ⊥) → None ≡ gen_words (texts others)
+no_recipe [] other = refl
+no_recipe (a ∷ []) other = refl
+no_recipe (a ∷ b ∷ []) other = refl
+no_recipe (a ∷ b ∷ c ∷ []) other = refl
+no_recipe (a ∷ b ∷ c ∷ d ∷ []) other = absurd (other (omega arith))
+no_recipe (a ∷ b ∷ c ∷ d ∷ x ∷ rest) other = refl
+
 pub no_such_command : {Z : Type 0} (words : List (String Z)) (name : String Z) → 0 < length words → name ≡ slice_index_or words 0 name →
-    (string_bytes name ≡ codes "check" → ⊥) → (string_bytes name ≡ codes "certify" → ⊥) → (string_bytes name ≡ codes "convert" → ⊥) →
-    or_unknown (command_of (texts words)) ≡ Err Words
-no_such_command [] name some is check certify convert = absurd (omega (arith, some))
-no_such_command {Z} (word ∷ others) name some is check certify convert =
-    let P : String Z → Type 0 = λ w. or_unknown (command_of (texts (w ∷ others))) ≡ Err Words in
-    subst P is (ap (λ (o : Option (List (List ℕ) → Option Command)). or_unknown (option_and_then (λ form. form (texts others)) o)) (not_named commands (string_bytes name) (check, (certify, (convert, tt)))))
+    (string_bytes name ≡ codes "check" → ⊥) → (string_bytes name ≡ codes "certify" → ⊥) → (string_bytes name ≡ codes "convert" → ⊥) → (string_bytes name ≡ codes "load" → ⊥) →
+    (string_bytes name ≡ codes "gen" → ⊥) → None ≡ command_of (texts words)
+no_such_command [] name some is check certify convert load gen = absurd (omega (arith, some))
+no_such_command {Z} (word ∷ others) name some is check certify convert load gen =
+    let P : String Z → Type 0 = λ w. None ≡ command_of (texts (w ∷ others)) in
+    subst P is (sym (ap (λ (o : Option (List (List ℕ) → Option Command)). option_and_then (λ form. form (texts others)) o)
+    (not_named commands (string_bytes name) (check, (certify, (convert, (load, (gen, tt))))))))

@@ -10,12 +10,16 @@ use Rattle.fab_dump.specs.Writing.{plan_text}
 use Rattle.fab_certify.specs.declared.certified.Certified.{Certified}
 use Rattle.fab_certify.specs.declared.certified.Certified.TheVariants.{Numbers, Refused, RingUsed}
 use Rattle.fab_certify.specs.Certificate.{IsCertificate}
+use Rattle.fab_netdiscover.specs.Writing.{text_of}
+use Rattle.fab_report.specs.Loads.{loads_of}
+use Rattle.fab_report.specs.Recipes.{generated}
 use Rattle.fab_top.specs.declared.command.Command.{Command}
-use Rattle.fab_top.specs.declared.command.Command.TheVariants.{Check, Certify, Convert}
+use Rattle.fab_top.specs.declared.command.Command.TheVariants.{Check, Certify, Convert, Load, Gen}
 use Rattle.fab_top.specs.Words.{command_of}
 use Rattle.fab_top.specs.Usage.{usage_text}
 use Rattle.fab_top.specs.Answer.{Answer, done, no}
 use Rattle.fab_top.specs.Texts.{verdict_text, ring_text}
+use Rattle.fab_top.specs.ReportTexts.{load_text}
 use Rattle.fab_top.specs.Seen.{Seen, WithBoth}
 
 -- ---- check
@@ -52,12 +56,24 @@ IsCertifyAnswer t p answer = (certified : Certified) × IsCertificate t p certif
 abbrev pub IsPlanText : Topology → Plan → Answer → Type 0
 IsPlanText t p answer = answer ≡ done (plan_text t p)
 
+-- ---- load
+
+abbrev pub IsLoadAnswer : Topology → Plan → Answer → Type 0
+IsLoadAnswer t p answer = answer ≡ done (load_text t (loads_of t p.tables))
+
+-- ---- gen
+
+abbrev pub IsFabricText : Topology → Answer → Type 0
+IsFabricText t answer = answer ≡ done (text_of t)
+
 -- ---- by command
 
 abbrev pub IsAnswerTo : Seen → Command → Answer → Type 0
 IsAnswerTo w (Check fabric plan) answer = WithBoth w fabric plan IsCheckAnswer answer
 IsAnswerTo w (Certify fabric plan) answer = WithBoth w fabric plan IsCertifyAnswer answer
 IsAnswerTo w (Convert fabric plan) answer = WithBoth w fabric plan IsPlanText answer
+IsAnswerTo w (Load fabric plan) answer = WithBoth w fabric plan IsLoadAnswer answer
+IsAnswerTo w (Gen recipe) answer = IsFabricText (generated recipe) answer
 
 abbrev pub usage : Answer
 usage = record { status = 2; out = []; err = usage_text }

@@ -1,8 +1,9 @@
 -- What the program promises of its answers.
-use Rattle.std.specs.Prelude.{◌≡◌, ◌↔◌, ℕ, List, None, Some, Ok, MatchOption}
+use Rattle.std.specs.Prelude.{◌≡◌, ◌↔◌, ℕ, ◌≤◌, List, length, None, Some, Ok, MatchOption}
 use Rattle.fab_graph.specs.Walks.{IsAcyclic, Rises}
 use Rattle.fab_model.specs.Topology.{Topology}
 use Rattle.fab_model.specs.Connected.{IsConnectedTo}
+use Rattle.fab_model.specs.WellFormed.{IsFabric}
 use Rattle.fab_tables.specs.declared.plan.Plan.{Plan}
 use Rattle.fab_tables.specs.declared.end.End.TheVariants.{Delivered}
 use Rattle.fab_tables.specs.Certified.{Reaches, IsCertified, number_of}
@@ -12,11 +13,13 @@ use Rattle.fab_tables.specs.LaneTables.{LaneTables}
 use Rattle.fab_tables.specs.Route.{route, visited, HasRepeat}
 use Rattle.fab_check.specs.Free.{IsFreeOfDeadlock}
 use Rattle.fab_certify.specs.Numbered.{IsSound}
+use Rattle.fab_report.specs.declared.recipe.Recipe.{Recipe}
+use Rattle.fab_report.specs.Recipes.{generated}
 use Rattle.fab_top.specs.declared.command.Command.{Command}
-use Rattle.fab_top.specs.declared.command.Command.TheVariants.{Check, Certify, Convert}
+use Rattle.fab_top.specs.declared.command.Command.TheVariants.{Check, Certify, Convert, Load, Gen}
 use Rattle.fab_top.specs.Words.{command_of}
 use Rattle.fab_top.specs.Answer.{Answer}
-use Rattle.fab_top.specs.Files.{plan_in}
+use Rattle.fab_top.specs.Files.{fabric_limit, fabric_in, plan_in}
 use Rattle.fab_top.specs.Texts.{ok_routes, ok_lanes}
 use Rattle.fab_top.specs.Seen.{Seen, WithBoth}
 
@@ -67,11 +70,28 @@ pub record CertifiesTruly (t : Topology) (p : Plan) (answer : Answer) : Type 0 w
 abbrev pub ConvertsTruly : Topology → Plan → Answer → Type 0
 ConvertsTruly t p answer = Done answer × IsReadAgain t p answer.out
 
+-- the loads are always told
+abbrev pub IsDone : Topology → Plan → Answer → Type 0
+IsDone t p answer = Done answer
+
+-- the text, in a file of any name, is taken as this fabric, if it isn't longer than such a file may be
+abbrev pub IsFabricAgain : Topology → List ℕ → Type 0
+IsFabricAgain t text = length text ≤ fabric_limit → (name : List ℕ) → fabric_in name text ≡ Ok t
+
+abbrev pub WritesTruly : Topology → Answer → Type 0
+WritesTruly t answer = Done answer × IsFabricAgain t answer.out
+
+-- a recipe gives a fabric in order, and its text
+abbrev pub GeneratesTruly : Recipe → Answer → Type 0
+GeneratesTruly recipe answer = IsFabric (generated recipe) × WritesTruly (generated recipe) answer
+
 -- by command
 abbrev pub KeepsHeadlineOf : Seen → Command → Answer → Type 0
 KeepsHeadlineOf w (Check fabric plan) answer = WithBoth w fabric plan ChecksTruly answer
 KeepsHeadlineOf w (Certify fabric plan) answer = WithBoth w fabric plan CertifiesTruly answer
 KeepsHeadlineOf w (Convert fabric plan) answer = WithBoth w fabric plan ConvertsTruly answer
+KeepsHeadlineOf w (Load fabric plan) answer = WithBoth w fabric plan IsDone answer
+KeepsHeadlineOf w (Gen recipe) answer = GeneratesTruly recipe answer
 
 abbrev pub KeepsHeadline : Seen → Answer → Type 0
 KeepsHeadline w answer = MatchOption (command_of w.words) (Unit {0}) (λ command. KeepsHeadlineOf w command answer)

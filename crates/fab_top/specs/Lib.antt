@@ -3,6 +3,7 @@ pub mod ReadWords
 pub mod Usage
 pub mod Answer
 pub mod Texts
+pub mod ReportTexts
 pub mod FaultTexts
 pub mod Files
 pub mod Seen

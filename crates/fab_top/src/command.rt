@@ -1,6 +1,8 @@
 //! The commands that the words may ask for. Files are named by the places of their words, so that one name may stand
 //! for two files, as `-` does.
 
+use fab_report::Recipe;
+
 /// What the words ask for. A file is named by the place of its word in the list of words, from 0.
 #[derive(Clone, Copy, Debug, PartialEq, Eq)]
 pub enum Command {
@@ -10,4 +12,8 @@ pub enum Command {
     Certify { fabric: usize, plan: usize },
     /// A plan of a fabric, written as plans are written now.
     Convert { fabric: usize, plan: usize },
+    /// How many routes of a plan go over each channel of its fabric.
+    Load { fabric: usize, plan: usize },
+    /// The fabric of a recipe, which fits.
+    Gen { recipe: Recipe },
 }

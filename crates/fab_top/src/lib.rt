@@ -8,6 +8,7 @@ mod files;
 mod laws;
 mod outcome;
 mod outputs;
+mod report_texts;
 #[cfg(test)]
 mod tests;
 mod texts;

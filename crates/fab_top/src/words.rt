@@ -1,11 +1,14 @@
 //! The grammar of the words, without the program's own name. A command is found by its first word, in time that the
 //! length of the words gives.
-ghost use Rattle.std.specs.Prelude.{◌≡◌};
-ghost use Rattle.fab_top.specs.Words.{texts, command_of, is_file, are_two_files};
+ghost use Rattle.std.specs.Prelude.{◌≡◌, ◌≤◌, IfSome};
+ghost use Rattle.std.specs.Bool.{then_some};
+ghost use Rattle.fab_top.specs.Words.{texts, command_of, is_file, are_two_files, has_leading_zero, number_in, named, kinds, recipe_in, gen_words};
 ghost use Rattle.fab_top.specs.ReadWords.{or_unknown, wants_memory};
 ghost use Rattle.fab_text.specs.Readings.{Gives};
 
 use crate::command::Command;
+use fab_report::{Kind, Recipe};
+use fab_text::read_dec;
 use std::alloc::{AllocError, Global};
 use thiserror::Error;
 
@@ -26,6 +29,27 @@ fn is_file(word: &str) -> bool
     !word.is_empty() && !word.starts_with("--")
 }
 
+fn has_leading_zero(word: &str) -> bool
+    ensures { result ≡ has_leading_zero word.now }
+{
+    word.len() > 1 && word.starts_with("0")
+}
+
+/// A decimal number of at most a value, without leading zeros.
+fn number_in(greatest: u64, word: &str) -> Option<u64>
+    ensures number { result ≡ number_in greatest word.now }
+    ensures below { IfSome result (λ number. number ≤ greatest) }
+{
+    if has_leading_zero(word) {
+        return None;
+    }
+    let digits = word.as_bytes();
+    match read_dec(digits, 0) {
+        Some((number, end)) if end == digits.len() && number <= greatest => Some(number),
+        _ => None,
+    }
+}
+
 /// Whether the words are two, each of which names a file.
 fn are_two_files(others: &[String]) -> bool
     ensures { result ≡ are_two_files (texts others.now) }
@@ -36,18 +60,73 @@ fn are_two_files(others: &[String]) -> bool
     }
 }
 
+/// A command on the files of two words, and no more words.
+fn on_two_files(others: &[String], command: Command) -> Option<Command>
+    ensures { result ≡ then_some (are_two_files (texts others.now)) command }
+{
+    are_two_files(others).then_some(command)
+}
+
+fn kind_in(word: &str) -> Option<Kind>
+    ensures { result ≡ named kinds word.now }
+{
+    match word {
+        "ring" => Some(Kind::Ring),
+        "torus" => Some(Kind::Torus),
+        "tree" => Some(Kind::Tree),
+        "random" => Some(Kind::Random),
+        _ => None,
+    }
+}
+
+/// A recipe that fits.
+fn recipe_in(kind: &str, a: &str, b: &str, seed: &str) -> Option<Recipe>
+    ensures { result ≡ recipe_in kind.now a.now b.now seed.now }
+{
+    let kind = kind_in(kind)?;
+    let a = number_in(4_294_967_295, a)? as u32;
+    let b = number_in(4_294_967_295, b)? as u32;
+    let seed = number_in(18_446_744_073_709_551_615, seed)?;
+    let recipe = Recipe { kind, a, b, seed };
+    recipe.fits().then_some(recipe)
+}
+
+fn gen_words(others: &[String]) -> Option<Command>
+    ensures { result ≡ gen_words (texts others.now) }
+{
+    match others {
+        [kind, a, b, seed] => {
+            let recipe = recipe_in(kind.as_str(), a.as_str(), b.as_str(), seed.as_str())?;
+            Some(Command::Gen { recipe })
+        }
+        _ => None,
+    }
+}
+
+/// The command that the words spell, if they are in the grammar.
+fn command_of(words: &[String]) -> Option<Command>
+    ensures { result ≡ command_of (texts words.now) }
+{
+    let [name, others @ ..] = words else {
+        return None;
+    };
+    match name.as_str() {
+        "check" => on_two_files(others, Command::Check { fabric: 1, plan: 2 }),
+        "certify" => on_two_files(others, Command::Certify { fabric: 1, plan: 2 }),
+        "convert" => on_two_files(others, Command::Convert { fabric: 1, plan: 2 }),
+        "load" => on_two_files(others, Command::Load { fabric: 1, plan: 2 }),
+        "gen" => gen_words(others),
+        _ => None,
+    }
+}
+
 /// The command that the words ask for, the program's own name left out. They are refused exactly where they
 /// are not in the grammar.
 pub fn read_words(_alloc: Global, words: &[String]) -> Result<Command, WordsFault>
     ensures { Gives wants_memory result (or_unknown (command_of (texts words.now))) }
 {
-    match words {
-        [name, others @ ..] if are_two_files(others) => match name.as_str() {
-            "check" => Ok(Command::Check { fabric: 1, plan: 2 }),
-            "certify" => Ok(Command::Certify { fabric: 1, plan: 2 }),
-            "convert" => Ok(Command::Convert { fabric: 1, plan: 2 }),
-            _ => Err(WordsFault::Words),
-        },
-        _ => Err(WordsFault::Words),
+    match command_of(words) {
+        Some(command) => Ok(command),
+        None => Err(WordsFault::Words),
     }
 }

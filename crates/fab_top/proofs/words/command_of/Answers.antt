@@ -1,6 +1,6 @@
 use Rattle.std.proofs.Common.{◌∙◌, arith}
 use Rattle.fab_top.proofs.Wording.{no_such_command}
-use Rattle.fab_top.proofs.words.read_words.Goals as goal
+use Rattle.fab_top.proofs.words.command_of.Goals as goal
 
 pub returns-in_default-as_str : goal.returns-in_default-as_str
 returns-in_default-as_str c =
@@ -8,3 +8,5 @@ returns-in_default-as_str c =
     (λ e. c.in_default-as_str.not-check (c.as_str.ensures.value ∙ e))
     (λ e. c.in_default-as_str.not-certify (c.as_str.ensures.value ∙ e))
     (λ e. c.in_default-as_str.not-convert (c.as_str.ensures.value ∙ e))
+    (λ e. c.in_default-as_str.not-load (c.as_str.ensures.value ∙ e))
+    (λ e. c.in_default-as_str.not-gen (c.as_str.ensures.value ∙ e))

@@ -1,0 +1,148 @@
+-- What is known of a command that words spell: its files are named by places among the words, and its recipe fits.
+use Rattle.std.proofs.Common.{◌≡◌, ℕ, suc, ◌<◌, ◌≤◌, ◌-◌, ◌^◌, ◌&&◌, Bool, true, false, List, [], ◌∷◌, length, Option, None, Some, String, refl, subst, arith}
+use Rattle.std.specs.Prelude.{option_map, option_and_then, find, if◌then◌else◌, IsTrue, IfSome}
+use Rattle.std.specs.Bool.{then_some}
+use Rattle.std.specs.Str.{bytes_eq}
+use Rattle.std.proofs.lemmas.List.{length-map}
+use Rattle.fab_report.specs.declared.recipe.Kind.{Kind}
+use Rattle.fab_report.specs.declared.recipe.Recipe.{Recipe}
+use Rattle.fab_report.specs.Laws.{HasSeed}
+use Rattle.fab_report.specs.Recipes.{fits}
+use Rattle.fab_top.specs.declared.command.Command.{Command}
+use Rattle.fab_top.specs.declared.command.Command.TheVariants.{Check, Certify, Convert, Load, Gen}
+use Rattle.fab_top.specs.Ran.{files_of}
+use Rattle.fab_top.specs.Words.{texts, is_file, named, number_in, kinds, two_files, recipe_of, recipe_in, gen_words, commands, command_of}
+use Rattle.fab_top.proofs.WordNumbers.{number_is_low}
+
+-- each place is below a number
+abbrev pub AllBelow : ℕ → List ℕ → Type 0
+AllBelow n [] = Unit {0}
+AllBelow n (place ∷ places) = (place < n) × AllBelow n places
+
+pub record IsFitting (recipe : Recipe) : Type 0 where
+  pub fits : IsTrue (fits recipe)
+  pub seed : HasSeed recipe
+
+-- its recipe, if it has one, fits
+abbrev pub HasFittingRecipe : Command → Type 0
+HasFittingRecipe (Gen recipe) = IsFitting recipe
+HasFittingRecipe _ = Unit {0}
+
+pub record IsSpelledBy (count : ℕ) (command : Command) : Type 0 where
+  pub places : AllBelow count (files_of command)
+  pub recipe : HasFittingRecipe command
+
+-- what a form makes of the words behind the first
+abbrev SpellsRightly : (List (List ℕ) → Option Command) → Type 0
+SpellsRightly form = (others : List (List ℕ)) (made : Command) → form others ≡ Some made → IsSpelledBy (suc (length others)) made
+
+-- ---- what a form made
+
+abbrev IfSpelled : ℕ → Option Command → Type 0
+IfSpelled n None = Unit {0}
+IfSpelled n (Some command) = IsSpelledBy n command
+
+made_as : (n : ℕ) (x made : Command) → Some x ≡ Some made → IsSpelledBy n x → IsSpelledBy n made
+made_as n x made e spelled = subst (IfSpelled n) e spelled
+
+made_if : (n : ℕ) (b : Bool) (x made : Command) → then_some b x ≡ Some made → IsSpelledBy n x → IsSpelledBy n made
+made_if n true x made e spelled = made_as n x made e spelled
+made_if n false x made e spelled = cc
+
+-- ---- the forms
+
+two_within : (make : ℕ → ℕ → Command) → IsSpelledBy 3 (make 1 2) → SpellsRightly (two_files make)
+two_within make both [] made e = cc
+two_within make both (a ∷ []) made e = cc
+two_within make both (a ∷ b ∷ []) made e = made_if 3 (is_file a && is_file b) (make 1 2) made e both
+two_within make both (a ∷ b ∷ c ∷ rest) made e = cc
+
+abbrev IfFitting : Option Recipe → Type 0
+IfFitting None = Unit {0}
+IfFitting (Some recipe) = IsFitting recipe
+
+fitting : (recipe : Recipe) (b : Bool) → fits recipe ≡ b → HasSeed recipe → IfFitting (then_some b recipe)
+fitting recipe true e seed = record { fits = e; seed = seed }
+fitting recipe false e seed = tt
+
+abbrev IfLow : Option ℕ → Type 0
+IfLow None = Unit {0}
+IfLow (Some n) = n < 2 ^ 64
+
+recipe_fits : (kind : Option Kind) (a b seed : Option ℕ) → IfLow seed → IfFitting (recipe_of kind a b seed)
+recipe_fits None a b seed low = tt
+recipe_fits (Some kind) None b seed low = tt
+recipe_fits (Some kind) (Some a) None seed low = tt
+recipe_fits (Some kind) (Some a) (Some b) None low = tt
+recipe_fits (Some kind) (Some a) (Some b) (Some seed) low = fitting (record { kind = kind; a = a; b = b; seed = seed }) _ refl low
+
+made_gen : (recipe : Option Recipe) (made : Command) → IfFitting recipe → option_map (λ r. Gen r) recipe ≡ Some made → IsSpelledBy 5 made
+made_gen None made fits e = cc
+made_gen (Some recipe) made fits e = made_as 5 (Gen recipe) made e (record { places = tt; recipe = fits })
+
+gen_within : SpellsRightly gen_words
+gen_within [] made e = cc
+gen_within (a ∷ []) made e = cc
+gen_within (a ∷ b ∷ []) made e = cc
+gen_within (a ∷ b ∷ c ∷ []) made e = cc
+gen_within (a ∷ b ∷ c ∷ d ∷ []) made e =
+    made_gen (recipe_in a b c d) made
+    (recipe_fits (named kinds a) (number_in (2 ^ 32 - 1) b) (number_in (2 ^ 32 - 1) c) (number_in (2 ^ 64 - 1) d) (seed_is_low (number_in (2 ^ 64 - 1) d) (number_is_low (2 ^ 64 - 1) d))) e
+  where
+    seed_is_low : (n : Option ℕ) → IfSome n (λ number. number ≤ 2 ^ 64 - 1) → IfLow n
+    seed_is_low None low = tt
+    seed_is_low (Some n) low = omega (arith, low)
+gen_within (a ∷ b ∷ c ∷ d ∷ x ∷ rest) made e = cc
+
+-- ---- the table of the forms
+
+abbrev AllRight : List (List ℕ × (List (List ℕ) → Option Command)) → Type 0
+AllRight [] = Unit {0}
+AllRight (row ∷ rows) = SpellsRightly row.1 × AllRight rows
+
+abbrev form_of : Option (List ℕ × (List (List ℕ) → Option Command)) → List (List ℕ) → Option Command
+form_of found others = option_and_then (λ form. form others) (option_map (λ row. row.1) found)
+
+by_test : (b : Bool) (row : List ℕ × (List (List ℕ) → Option Command)) (behind : Option (List ℕ × (List (List ℕ) → Option Command))) (others : List (List ℕ)) (made : Command) →
+    SpellsRightly row.1 → (form_of behind others ≡ Some made → IsSpelledBy (suc (length others)) made) →
+    form_of (if b then Some row else behind) others ≡ Some made → IsSpelledBy (suc (length others)) made
+by_test true row behind others made right rest e = right others made e
+by_test false row behind others made right rest e = rest e
+
+by_row : (rows : List (List ℕ × (List (List ℕ) → Option Command))) → AllRight rows → (word : List ℕ) (others : List (List ℕ)) (made : Command) →
+    form_of (find (λ row. bytes_eq row.0 word) rows) others ≡ Some made → IsSpelledBy (suc (length others)) made
+by_row [] all word others made e = cc
+by_row (row ∷ rows) all word others made e = by_test (bytes_eq row.0 word) row _ others made all.0 (by_row rows all.1 word others made) e
+
+both_places : AllBelow 3 (1 ∷ 2 ∷ [])
+both_places = (omega arith, (omega arith, tt))
+
+all_right : AllRight commands
+all_right = (
+  two_within (λ f p. Check f p) (record { places = both_places; recipe = tt }),
+  (
+    two_within (λ f p. Certify f p) (record { places = both_places; recipe = tt }),
+    (
+      two_within (λ f p. Convert f p) (record { places = both_places; recipe = tt }),
+      (
+        two_within (λ f p. Load f p) (record { places = both_places; recipe = tt }),
+        (gen_within, tt),
+      ),
+    ),
+  ),
+)
+
+spelled_right : (words : List (List ℕ)) (made : Command) → command_of words ≡ Some made → IsSpelledBy (length words) made
+spelled_right [] made e = cc
+spelled_right (word ∷ others) made e = by_row commands all_right word others made e
+
+pub has_fitting_recipe : (words : List (List ℕ)) (made : Command) → command_of words ≡ Some made → HasFittingRecipe made
+has_fitting_recipe words made e = (spelled_right words made e).recipe
+
+-- said of the words themselves
+pub is_spelled : {Z : Type 0} (words : List (String Z)) (command made : Command) → command_of (texts words) ≡ Some command → command ≡ made → IsSpelledBy (length words) made
+is_spelled {Z} words command made e is =
+    let P : Command → Type 0 = λ c. IsSpelledBy (length (texts words)) c in
+    let Q : ℕ → Type 0 = λ n. IsSpelledBy n made in
+    let same : length (texts words) ≡ length words = simp length-map in
+    subst Q same (subst P is (spelled_right (texts words) command e))

@@ -1,0 +1,29 @@
+use Rattle.fab_top.proofs.SpelledCommands.{is_spelled}
+use Rattle.fab_top.proofs.top_call.obey.Goals as goal
+
+pub check-requires-clause-fabric : goal.check-requires-clause-fabric
+check-requires-clause-fabric g c = (is_spelled c.args.words.now _ _ c.requires c.in-Check.is).places.0
+
+pub check-requires-clause-plan : goal.check-requires-clause-plan
+check-requires-clause-plan g c = (is_spelled c.args.words.now _ _ c.requires c.in-Check.is).places.1.0
+
+pub certify-requires-clause-fabric : goal.certify-requires-clause-fabric
+certify-requires-clause-fabric g c = (is_spelled c.args.words.now _ _ c.requires c.in-Certify.is).places.0
+
+pub certify-requires-clause-plan : goal.certify-requires-clause-plan
+certify-requires-clause-plan g c = (is_spelled c.args.words.now _ _ c.requires c.in-Certify.is).places.1.0
+
+pub convert-requires-clause-fabric : goal.convert-requires-clause-fabric
+convert-requires-clause-fabric g c = (is_spelled c.args.words.now _ _ c.requires c.in-Convert.is).places.0
+
+pub convert-requires-clause-plan : goal.convert-requires-clause-plan
+convert-requires-clause-plan g c = (is_spelled c.args.words.now _ _ c.requires c.in-Convert.is).places.1.0
+
+pub load-requires-clause-fabric : goal.load-requires-clause-fabric
+load-requires-clause-fabric g c = (is_spelled c.args.words.now _ _ c.requires c.in-Load.is).places.0
+
+pub load-requires-clause-plan : goal.load-requires-clause-plan
+load-requires-clause-plan g c = (is_spelled c.args.words.now _ _ c.requires c.in-Load.is).places.1.0
+
+pub generate-requires : goal.generate-requires
+generate-requires g c = (is_spelled c.args.words.now _ _ c.requires c.in-Gen.is).recipe.fits

@@ -1,0 +1,17 @@
+-- The texts of reports. Each ends with a line feed.
+use Rattle.std.specs.Prelude.{ℕ, List, ◌++◌, flat_map, slice_index, Some, codes, decimal}
+use Rattle.std.specs.List.{enumerate_from}
+use Rattle.fab_model.specs.declared.rows.ChannelRow.{ChannelRow}
+use Rattle.fab_model.specs.Topology.{Topology}
+use Rattle.fab_report.specs.Loads.{greatest}
+use Rattle.fab_top.specs.Texts.{channel_row_text}
+
+-- ---- load
+
+-- a channel and its load, by the loads of all channels
+abbrev pub load_line : Topology → List ℕ → ℕ × ChannelRow → List ℕ
+load_line t loads numbered = channel_row_text t (Some numbered.1) ++ codes " " ++ decimal (slice_index loads numbered.0) ++ codes "\n"
+
+-- the channels by number, and the greatest load
+abbrev pub load_text : Topology → List ℕ → List ℕ
+load_text t loads = flat_map (load_line t loads) (enumerate_from 0 t.channels) ++ codes "greatest " ++ decimal (greatest loads) ++ codes "\n"
