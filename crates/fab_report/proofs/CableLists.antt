@@ -6,13 +6,13 @@ use Rattle.fab_model.specs.declared.rows.ChannelRow.{ChannelRow}
 use Rattle.fab_model.specs.Topology.{reversed}
 use Rattle.fab_model.specs.WellFormed.{GoesBefore, IsPort}
 use Rattle.fab_model.specs.Built.{by_tail}
-use Rattle.fab_model.proofs.FaultlessMembers.{In, Pairs, pairs_weaker}
-use Rattle.fab_model.proofs.FaultlessChannels.{goes_from_test, by_tail_along, channels_apart}
-use Rattle.fab_model.proofs.FaultlessOrder.{from_in_order, in_in_order, rise_in_order, Goes, AreApart}
+use Rattle.fab_model.proofs.Lists.Members.{In, Pairs, pairs_weaker}
+use Rattle.fab_model.proofs.Faultless.Channels.{goes_from_test, by_tail_along, channels_apart}
+use Rattle.fab_model.proofs.Lists.InOrder.{from_in_order, in_in_order, rise_in_order, Goes, AreApart}
 use Rattle.fab_model.proofs.Order.{length-in_order}
 use Rattle.fab_report.specs.declared.recipe.Kind.{Kind}
 use Rattle.fab_report.specs.Recipes.{switch_count, port_count, terminal_ports, channels_of}
-use Rattle.fab_model.proofs.FlatMaps.{from_flat_map, in_flat_map, pairs_flat_map}
+use Rattle.fab_model.proofs.Lists.FlatMaps.{from_flat_map, in_flat_map, pairs_flat_map}
 
 -- ---- cables
 

@@ -14,9 +14,9 @@ use Rattle.fab_model.specs.declared.rows.ChannelRow.{ChannelRow}
 use Rattle.fab_model.specs.Description.{IsDescription}
 use Rattle.fab_model.specs.Topology.{ports_of, reversed}
 use Rattle.fab_model.specs.WellFormed.{GoesBefore, IsPort, IsUnicast, adapter_ports_of, UseOtherPorts, AreOtherPorts, IsWellFormed, FitsTypes, IsFabric}
-use Rattle.fab_model.proofs.FaultlessMembers.{In, Pairs, All_from_in, AllPairs_from_pairs, Contains_from_in, from_map, from_append, pairs_map, pairs_weaker, list_any_false}
-use Rattle.fab_model.proofs.FaultlessFacts.{slice_get_in}
-use Rattle.fab_model.proofs.MakesItselfLists.{from_enumerate, pairs_enumerate, from_range, range_rises}
+use Rattle.fab_model.proofs.Lists.Members.{In, Pairs, All_from_in, AllPairs_from_pairs, Contains_from_in, from_map, from_append, pairs_map, pairs_weaker, list_any_false}
+use Rattle.fab_model.proofs.Faultless.Facts.{slice_get_in}
+use Rattle.fab_model.proofs.Lists.Found.{from_enumerate, pairs_enumerate, from_range, range_rises}
 use Rattle.fab_report.specs.declared.recipe.Recipe.{Recipe}
 use Rattle.fab_report.specs.Recipes.{fits, switch_count, port_count, switch_row, all_switches, terminal_ports, terminal_places, terminal_row, adapter_row, cables, channels_of, generated}
 use Rattle.fab_report.specs.Laws.{GeneratedIsFabric}

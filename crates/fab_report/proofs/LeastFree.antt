@@ -6,8 +6,8 @@ use Rattle.std.proofs.lemmas.Bool.{cases_eq, cases_lt, cases_order, eq-eqb, ne_e
 use Rattle.std.proofs.lemmas.List.{get_or-set_same}
 use Rattle.std.proofs.lemmas.List.Folds.{list_any-append}
 use Rattle.fab_model.specs.declared.rows.ChannelRow.{ChannelRow}
-use Rattle.fab_model.proofs.FaultlessMembers.{In}
-use Rattle.fab_model.proofs.MakesItselfLists.{from_range, find_none}
+use Rattle.fab_model.proofs.Lists.Members.{In}
+use Rattle.fab_model.proofs.Lists.Found.{from_range, find_none}
 use Rattle.fab_report.specs.Cabling.{cable, ends_at, is_free, free_port, has_free_port, with_cable_at, with_cable}
 use Rattle.fab_report.specs.Laying.{LaidCables, IsLeastFree, AreLeastFree}
 

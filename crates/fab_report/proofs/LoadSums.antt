@@ -10,14 +10,14 @@ use Rattle.std.proofs.lemmas.List.Sums.{sum_by-cons, sum_by_push, sum_by_more, s
 use Rattle.fab_model.specs.declared.rows.TerminalRow.{TerminalRow}
 use Rattle.fab_model.specs.Topology.{Topology, lids_of}
 use Rattle.fab_model.specs.WellFormed.{IsFabric}
-use Rattle.fab_model.proofs.FaultlessMembers.{In, Pairs, in_all, pairs_from_AllPairs}
-use Rattle.fab_model.proofs.FaultlessFacts.{slice_get_in}
+use Rattle.fab_model.proofs.Lists.Members.{In, Pairs, in_all, pairs_from_AllPairs}
+use Rattle.fab_model.proofs.Faultless.Facts.{slice_get_in}
 use Rattle.fab_model.proofs.Order.{lids_are_counted}
 use Rattle.fab_tables.specs.declared.end.End.{End}
 use Rattle.fab_tables.specs.declared.end.End.TheVariants.{Delivered, NoEntry, DeadPort, Astray, Loop}
 use Rattle.fab_tables.specs.Entries.{Entries}
 use Rattle.fab_tables.specs.Route.{Route, tip, route}
-use Rattle.fab_tables.proofs.RoutesBehind.{behind_tip}
+use Rattle.fab_tables.proofs.Paths.RoutesBehind.{behind_tip}
 use Rattle.fab_report.specs.Loads.{is_delivered, is_loaded_by, load_of, loads_of}
 use Rattle.fab_report.specs.Counting.{terminals_on, added_by, load_from, AreCounts}
 

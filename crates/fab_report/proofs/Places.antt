@@ -8,12 +8,12 @@ use Rattle.std.proofs.lemmas.List.Concat.{length-flat_map}
 use Rattle.std.proofs.lemmas.List.FromFn.{length-range_with_len}
 use Rattle.std.proofs.lemmas.List.Sums.{sum_by-cons}
 use Rattle.fab_model.specs.WellFormed.{IsPort}
-use Rattle.fab_model.proofs.FaultlessMembers.{In, Pairs, pairs_map, pairs_weaker, from_map}
-use Rattle.fab_model.proofs.MakesItselfLists.{from_range, range_rises}
+use Rattle.fab_model.proofs.Lists.Members.{In, Pairs, pairs_map, pairs_weaker, from_map}
+use Rattle.fab_model.proofs.Lists.Found.{from_range, range_rises}
 use Rattle.fab_report.specs.declared.recipe.Kind.{Kind}
 use Rattle.fab_report.specs.declared.recipe.Kind.TheVariants.{Ring, Torus, Tree, Random}
 use Rattle.fab_report.specs.Recipes.{fits_kind, switch_count, port_count, terminal_ports}
-use Rattle.fab_model.proofs.FlatMaps.{from_flat_map, pairs_flat_map}
+use Rattle.fab_model.proofs.Lists.FlatMaps.{from_flat_map, pairs_flat_map}
 use Rattle.fab_report.proofs.Ranges.{FitsRing, FitsTorus, FitsTree, FitsRandom, ring_fits, torus_fits, tree_fits, random_fits}
 
 abbrev pub place_at : ℕ → ℕ → ℕ × ℕ

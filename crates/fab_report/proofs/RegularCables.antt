@@ -9,12 +9,12 @@ use Rattle.std.proofs.lemmas.List.FromFn.{length-range_with_len}
 use Rattle.std.proofs.lemmas.List.Sums.{sum_by-le}
 use Rattle.std.proofs.lemmas.Nat.{mul-le, mul-add-lt, same_from_place, div_below, mod_below, div-add-mod'}
 use Rattle.fab_model.specs.declared.rows.ChannelRow.{ChannelRow}
-use Rattle.fab_model.proofs.FaultlessMembers.{In, Pairs, from_map, pairs_map, pairs_weaker}
-use Rattle.fab_model.proofs.MakesItselfLists.{from_range, range_rises}
+use Rattle.fab_model.proofs.Lists.Members.{In, Pairs, from_map, pairs_map, pairs_weaker}
+use Rattle.fab_model.proofs.Lists.Found.{from_range, range_rises}
 use Rattle.fab_report.specs.declared.recipe.Kind.TheVariants.{Ring, Torus, Tree}
 use Rattle.fab_report.specs.Cabling.{cable}
 use Rattle.fab_report.specs.Recipes.{fits_kind, port_count, at_grid, torus_cables_of, cables}
-use Rattle.fab_model.proofs.FlatMaps.{from_flat_map, pairs_flat_map}
+use Rattle.fab_model.proofs.Lists.FlatMaps.{from_flat_map, pairs_flat_map}
 use Rattle.fab_report.proofs.CableLists.{IsCable, HaveOwnEnds, AreCables}
 use Rattle.fab_report.proofs.Ranges.{FitsRing, FitsTorus, FitsTree, ring_fits, torus_fits, tree_fits, next_below, next_differs, next_one}
 

@@ -9,7 +9,7 @@ use Rattle.std.proofs.lemmas.List.Sums.{take_while-cons}
 use Rattle.fab_text.specs.Digits.{digits_at_front, number_spelled}
 use Rattle.fab_text.specs.Fields.{dec_up_to}
 use Rattle.fab_text.specs.Fronts.{dec_at}
-use Rattle.fab_dump.proofs.FieldNumbers.{not_too_great}
+use Rattle.fab_dump.proofs.Reading.FieldNumbers.{not_too_great}
 use Rattle.fab_top.specs.Words.{has_leading_zero, number_in}
 
 -- ---- digits and nothing else

@@ -1,4 +1,4 @@
-use Rattle.fab_tables.proofs.Ways.{goes_on}
+use Rattle.fab_tables.proofs.Paths.Ways.{goes_on}
 use Rattle.fab_report.proofs.ends.end_of.Goals as goal
 
 pub loop-preserved : goal.loop-preserved

@@ -1,4 +1,4 @@
-use Rattle.fab_tables.proofs.Ways.{IsOnWay}
+use Rattle.fab_tables.proofs.Paths.Ways.{IsOnWay}
 use Rattle.fab_report.proofs.ends.end_of.Given as goal
 
 abbrev pub invariant-loop : goal.invariant-loop

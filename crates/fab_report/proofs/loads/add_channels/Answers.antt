@@ -2,7 +2,7 @@ use Rattle.std.proofs.Common.{◌≡◌, ◌<◌, ◌+◌, length, sym, ap, ◌�
 use Rattle.std.specs.Prelude.{slice_index}
 use Rattle.fab_tables.specs.Ahead.{Ahead}
 use Rattle.fab_tables.specs.Route.{route}
-use Rattle.fab_tables.proofs.Ways.{goes_on, channel_low}
+use Rattle.fab_tables.proofs.Paths.Ways.{goes_on, channel_low}
 use Rattle.fab_report.proofs.LoadSums.{adding_starts, room_left, adding_goes, adding_ends, channels_differ}
 use Rattle.fab_report.proofs.loads.add_channels.Goals as goal
 

@@ -1,6 +1,6 @@
 use Rattle.std.proofs.Common.{length}
 use Rattle.fab_tables.specs.Route.{route}
-use Rattle.fab_tables.proofs.Ways.{IsOnWay}
+use Rattle.fab_tables.proofs.Paths.Ways.{IsOnWay}
 use Rattle.fab_report.proofs.LoadSums.{IsAdding}
 use Rattle.fab_report.proofs.loads.add_channels.Given as goal
 
