@@ -15,3 +15,4 @@ pub mod TerminalLists
 pub mod RegularRows
 pub mod NodeRows
 pub mod LoadSums
+pub mod HopLines
