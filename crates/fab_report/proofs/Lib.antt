@@ -16,3 +16,5 @@ pub mod RegularRows
 pub mod NodeRows
 pub mod LoadSums
 pub mod HopLines
+pub mod HopSums
+pub mod NumberCounts
