@@ -32,7 +32,7 @@ route_short t e lid (suc n) s = go (λ next. route_short t e lid n next) (hop_by
     go rest (Stop x) = omega arith
     go rest (Along c) = omega (arith, rest (tip t c))
 
-hops_short : (n : ℕ) (r : Route) → length r.channels ≤ n → hops_if_delivered r ≤ n
+pub hops_short : (n : ℕ) (r : Route) → length r.channels ≤ n → hops_if_delivered r ≤ n
 hops_short n r h = go (is_delivered r.end)
   where
     go : (b : Bool) → (if b then length r.channels else 0) ≤ n

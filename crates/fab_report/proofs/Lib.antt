@@ -15,3 +15,6 @@ pub mod TerminalLists
 pub mod RegularRows
 pub mod NodeRows
 pub mod LoadSums
+pub mod HopLines
+pub mod HopSums
+pub mod NumberCounts

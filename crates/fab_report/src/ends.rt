@@ -1,5 +1,8 @@
 //! How a route ends, and how long it is. Time: its hops.
-ghost use Rattle.std.specs.Prelude.{◌≡◌, ◌<◌, length};
+ghost use Rattle.std.specs.Prelude.{◌≡◌, ◌<◌, length, Contains};
+ghost use Rattle.fab_model.specs.Topology.{lids_of};
+ghost use Rattle.fab_model.specs.WellFormed.{IsFabric};
+ghost use Rattle.fab_tables.specs.Fit.{EntriesFit};
 ghost use Rattle.fab_tables.specs.Reaching.{IsToward};
 ghost use Rattle.fab_tables.specs.Route.{route as path};
 ghost use Rattle.fab_report.specs.Summary.{hops_if_delivered};
@@ -9,9 +12,11 @@ use fab_tables::{End, Tables, follow};
 
 /// How the route from a switch to a LID ends.
 pub(crate) fn end_of(fabric: &Fabric, tables: &Tables, from: SwitchId, lid: Lid) -> End
-    requires toward { IsToward fabric.now tables.now lid.0 }
+    requires fits { EntriesFit fabric.now tables.now }
     requires switch { from.0 < length fabric.now.switches }
-    ensures { result ≡ (path fabric.now tables.now from.0 lid.0).end }
+    requires in_use { Contains (lids_of fabric.now) lid.0 }
+    ensures end { result ≡ (path fabric.now tables.now from.0 lid.0).end }
+    ensures kept { IsFabric fabric.now }
 {
     let mut route = follow(fabric, tables, from, lid);
     while let Some(_) = route.next() {}
