@@ -8,14 +8,14 @@ use Rattle.fab_text.specs.Digits.{last_digits}
 use Rattle.fab_model.specs.declared.rows.ChannelRow.{ChannelRow}
 use Rattle.fab_model.specs.declared.rows.SwitchRow.{SwitchRow}
 use Rattle.fab_model.specs.Topology.{Topology, guid_of}
-use Rattle.fab_model.proofs.FaultlessMembers.{in_all}
-use Rattle.fab_model.proofs.MakesItselfLists.{from_find}
+use Rattle.fab_model.proofs.Lists.Members.{in_all}
+use Rattle.fab_model.proofs.Lists.Found.{from_find}
 use Rattle.fab_tables.specs.declared.lanes.PairRow.{PairRow}
 use Rattle.fab_tables.specs.declared.verdict.VirtualChannel.{VirtualChannel}
 use Rattle.fab_tables.specs.Entries.{cell}
 use Rattle.fab_tables.specs.LaneTables.{LaneTables, AreLaneTables, IsPairRow, lane, lane_at, lane_of_pair, is_pair}
 use Rattle.fab_tables.specs.VirtualChannels.{hop_lane, arrival, virtual_channel, on_channels}
-use Rattle.fab_tables.proofs.HopsTaken.{AreLow, first_low, rest_low}
+use Rattle.fab_tables.proofs.Paths.HopsTaken.{AreLow, first_low, rest_low}
 use Rattle.fab_report.specs.Shown.{channel_text}
 
 -- ---- text

@@ -1,7 +1,7 @@
 use Rattle.std.proofs.Common.{◌≡◌, ◌++◌, ℕ}
 use Rattle.std.specs.Prelude.{flat_map, slice_get}
 use Rattle.fab_tables.specs.Route.{route}
-use Rattle.fab_tables.proofs.Ways.{IsOnWay}
+use Rattle.fab_tables.proofs.Paths.Ways.{IsOnWay}
 use Rattle.fab_report.specs.Shown.{channel_text}
 use Rattle.fab_report.proofs.shown.push_channels.Given as goal
 
