@@ -23,7 +23,7 @@ HasRightAnswer IsRight = (a : Answer) × IsRight a
 
 -- ---- any file
 
-after_weaker : {X : Type 0} (read : Result X (List ℕ)) (rest other : X → Answer → Type 0) (a : Answer) → ((x : X) → read ≡ Ok x → rest x a → other x a) → After read rest a → After read other a
+pub after_weaker : {X : Type 0} (read : Result X (List ℕ)) (rest other : X → Answer → Type 0) (a : Answer) → ((x : X) → read ≡ Ok x → rest x a → other x a) → After read rest a → After read other a
 after_weaker (Ok x) rest other a weaker is = weaker x refl is
 after_weaker (Err text) rest other a weaker is = is
 
@@ -33,7 +33,7 @@ file_weaker name (Content.Holds bytes) read rest other a weaker is = after_weake
 file_weaker name Content.Untold read rest other a weaker is = tt
 file_weaker name Content.Fails read rest other a weaker is = is
 
-after_one : {X : Type 0} (read : Result X (List ℕ)) (rest : X → Answer → Type 0) (a b : Answer) → ((x : X) → read ≡ Ok x → rest x a → rest x b → a ≡ b) → After read rest a → After read rest b → a ≡ b
+pub after_one : {X : Type 0} (read : Result X (List ℕ)) (rest : X → Answer → Type 0) (a b : Answer) → ((x : X) → read ≡ Ok x → rest x a → rest x b → a ≡ b) → After read rest a → After read rest b → a ≡ b
 after_one (Ok x) rest a b one first second = one x refl first second
 after_one (Err text) rest a b one first second = first ∙ sym second
 
@@ -46,7 +46,7 @@ file_one name Content.Fails read rest a b told one first second = first ∙ sym 
 small_refusal : (text : List ℕ) (a : Answer) → a ≡ refused text → a.status ≤ 3
 small_refusal text a is = let P : Answer → Type 0 = λ b. b.status ≤ 3 in subst P (sym is) (omega arith)
 
-after_small : {X : Type 0} (read : Result X (List ℕ)) (rest : X → Answer → Type 0) (a : Answer) → ((x : X) → rest x a → a.status ≤ 3) → After read rest a → a.status ≤ 3
+pub after_small : {X : Type 0} (read : Result X (List ℕ)) (rest : X → Answer → Type 0) (a : Answer) → ((x : X) → rest x a → a.status ≤ 3) → After read rest a → a.status ≤ 3
 after_small (Ok x) rest a small is = small x is
 after_small (Err text) rest a small is = small_refusal text a is
 
@@ -56,7 +56,7 @@ file_small name (Content.Holds bytes) read rest a told small is = after_small (r
 file_small name Content.Untold read rest a told small is = cc
 file_small name Content.Fails read rest a told small is = cc
 
-after_exists : {X : Type 0} (read : Result X (List ℕ)) (rest : X → Answer → Type 0) → ((x : X) → read ≡ Ok x → HasRightAnswer (rest x)) → HasRightAnswer (After read rest)
+pub after_exists : {X : Type 0} (read : Result X (List ℕ)) (rest : X → Answer → Type 0) → ((x : X) → read ≡ Ok x → HasRightAnswer (rest x)) → HasRightAnswer (After read rest)
 after_exists (Ok x) rest exists = exists x refl
 after_exists (Err text) rest exists = (refused text, refl)
 

@@ -18,10 +18,10 @@ use Rattle.fab_netdiscover.specs.Writing.{text_of}
 use Rattle.fab_report.specs.Loads.{loads_of}
 use Rattle.fab_report.specs.Recipes.{generated}
 use Rattle.fab_top.specs.declared.command.Command.{Command}
-use Rattle.fab_top.specs.declared.command.Command.TheVariants.{Check, Certify, Convert, Load, Gen}
+use Rattle.fab_top.specs.declared.command.Command.TheVariants.{Check, Certify, Convert, Show, Load, Gen}
 use Rattle.fab_top.specs.Answer.{Answer, done}
-use Rattle.fab_top.specs.Answers.{IsAnswerTo, IsCheckAnswer, IsCertifyAnswer, IsPlanText, IsLoadAnswer, verdict_answer, certified_answer, usage}
-use Rattle.fab_top.specs.Headline.{KeepsHeadlineOf, ChecksTruly, CertifiesTruly, ConvertsTruly, IsDone}
+use Rattle.fab_top.specs.Answers.{IsAnswerTo, IsCheckAnswer, IsCertifyAnswer, IsPlanText, IsShowAnswer, IsLoadAnswer, verdict_answer, certified_answer, usage}
+use Rattle.fab_top.specs.Headline.{KeepsHeadlineOf, ChecksTruly, CertifiesTruly, ConvertsTruly, ShowsTruly, IsDone}
 use Rattle.fab_top.specs.Laws.{OneAnswer, AnswersKeepHeadline, StatusIsSmall, AnswerExists}
 use Rattle.fab_top.specs.Ran.{files_of}
 use Rattle.fab_top.specs.ReportTexts.{load_text}
@@ -32,6 +32,7 @@ use Rattle.fab_top.proofs.Certifying.{certificate_keeps, certificate_is_small, p
 use Rattle.fab_top.proofs.Generating.{done_is_small, generates_truly}
 use Rattle.fab_top.proofs.Judging.{true_verdict, verdict_keeps, verdict_is_small}
 use Rattle.fab_top.proofs.Loading.{load_keeps}
+use Rattle.fab_top.proofs.Showing.{one_show, show_keeps, show_is_small, show_exists}
 use Rattle.fab_top.proofs.SpelledCommands.{HasFittingRecipe, has_fitting_recipe}
 
 -- ---- after a fabric and a plan of it
@@ -59,6 +60,12 @@ both_one w fabric plan rest a b told one first second =
 
 at_most_3 : (n : ℕ) → n ≤ 1 → n ≤ 3
 at_most_3 n small = omega (arith, small)
+
+both_at_most_3 : (w : Seen) (fabric plan : ℕ) (rest : Topology → Plan → Answer → Type 0) (a : Answer) → AreTold w (fabric ∷ plan ∷ []) →
+    ((t : Topology) (p : Plan) → rest t p a → a.status ≤ 3) → WithBoth w fabric plan rest a → a.status ≤ 3
+both_at_most_3 w fabric plan rest a told small is =
+    fabric_small w fabric (λ t. WithPlan w t plan (rest t)) a (first_told w fabric (plan ∷ []) told)
+    (λ t. plan_small w t plan (rest t) a (second_told w fabric plan [] told) (small t)) is
 
 both_small : (w : Seen) (fabric plan : ℕ) (rest : Topology → Plan → Answer → Type 0) (a : Answer) → AreTold w (fabric ∷ plan ∷ []) →
     ((t : Topology) (p : Plan) → rest t p a → a.status ≤ 1) → WithBoth w fabric plan rest a → a.status ≤ 3
@@ -95,6 +102,8 @@ one_answer_to w (Some (Certify fabric plan)) a b told first second =
     both_one w fabric plan IsCertifyAnswer a b told (λ t p read x y. one_certified t p a b read.fits x y) first second
 one_answer_to w (Some (Convert fabric plan)) a b told first second =
     both_one w fabric plan IsPlanText a b told (λ t p read x y. x ∙ sym y) first second
+one_answer_to w (Some (Show fabric plan from to)) a b told first second =
+    both_one w fabric plan (IsShowAnswer from.0 to.0) a b told (λ t p read x y. one_show t p from.0 to.0 a b x y) first second
 one_answer_to w (Some (Load fabric plan)) a b told first second =
     both_one w fabric plan IsLoadAnswer a b told (λ t p read x y. x ∙ sym y) first second
 one_answer_to w (Some (Gen recipe)) a b told first second = first ∙ sym second
@@ -122,6 +131,7 @@ keeps_by w None a fitting is = tt
 keeps_by w (Some (Check fabric plan)) a fitting is = both_weaker w fabric plan IsCheckAnswer ChecksTruly a (λ t p read x. check_keeps t p a read x) is
 keeps_by w (Some (Certify fabric plan)) a fitting is = both_weaker w fabric plan IsCertifyAnswer CertifiesTruly a (λ t p read x. certify_keeps t p a read x) is
 keeps_by w (Some (Convert fabric plan)) a fitting is = both_weaker w fabric plan IsPlanText ConvertsTruly a (λ t p read x. convert_keeps t p a read x) is
+keeps_by w (Some (Show fabric plan from to)) a fitting is = both_weaker w fabric plan (IsShowAnswer from.0 to.0) (ShowsTruly from.0 to.0) a (λ t p read x. show_keeps t p from.0 to.0 a x) is
 keeps_by w (Some (Load fabric plan)) a fitting is = both_weaker w fabric plan IsLoadAnswer IsDone a (λ t p read x. load_keeps t p a x) is
 keeps_by w (Some (Gen recipe)) a fitting is = generates_truly recipe a fitting is
 
@@ -145,6 +155,8 @@ small_by w (Some (Certify fabric plan)) a told is =
     both_small w fabric plan IsCertifyAnswer a told (λ t p x. certificate_is_small t p x.0 a x.2) is
 small_by w (Some (Convert fabric plan)) a told is =
     both_small w fabric plan IsPlanText a told (λ t p x. plan_is_small t p a x) is
+small_by w (Some (Show fabric plan from to)) a told is =
+    both_at_most_3 w fabric plan (IsShowAnswer from.0 to.0) a told (λ t p x. show_is_small t p from.0 to.0 a x) is
 small_by w (Some (Load fabric plan)) a told is =
     both_small w fabric plan IsLoadAnswer a told (λ t p x. done_is_small (load_text t (loads_of t p.tables)) a x) is
 small_by w (Some (Gen recipe)) a told is = at_most_3 a.status (done_is_small (text_of (generated recipe)) a is)
@@ -166,6 +178,7 @@ exists_by w None told = (usage, refl)
 exists_by w (Some (Check fabric plan)) told = both_exist w fabric plan IsCheckAnswer told exists_check
 exists_by w (Some (Certify fabric plan)) told = both_exist w fabric plan IsCertifyAnswer told exists_certify
 exists_by w (Some (Convert fabric plan)) told = both_exist w fabric plan IsPlanText told (λ t p read. (done (plan_text t p), refl))
+exists_by w (Some (Show fabric plan from to)) told = both_exist w fabric plan (IsShowAnswer from.0 to.0) told (λ t p read. show_exists t p from.0 to.0)
 exists_by w (Some (Load fabric plan)) told = both_exist w fabric plan IsLoadAnswer told (λ t p read. (done (load_text t (loads_of t p.tables)), refl))
 exists_by w (Some (Gen recipe)) told = (done (text_of (generated recipe)), refl)
 

@@ -11,7 +11,7 @@ use Rattle.fab_top.specs.declared.outcome.Stop.TheVariants.{Refused, Unread, Mem
 use Rattle.fab_top.specs.Answer.{Answer, refused, unread}
 use Rattle.fab_top.specs.Outcomes.{FindsRightly, IsFound, IsStoppedAt, Concludes, answer_of}
 use Rattle.fab_top.specs.Seen.{Seen, Content, content_told, After, AfterFile, seen, seen_failing, word_at}
-use Rattle.fab_top.specs.Taking.{FileSays, StopsAt}
+use Rattle.fab_top.specs.Taking.{FileSays, StopsAt, IsTaken}
 
 -- the answer after the file of this place is read, from the answer to the rest
 abbrev pub WithFile : {X : Type 0} → ℕ → (List ℕ → List ℕ → Result X (List ℕ)) → (X → Seen → Answer → Type 0) → Seen → Answer → Type 0
@@ -136,6 +136,27 @@ found A H words told now (Ok outcome) finds = record { right = finds; counts = r
 found A H words told now (Err (Refused text)) finds = record { right = finds; counts = refl }
 found A H words told now (Err (Unread place)) finds = absurd finds
 found A H words told now (Err (Memory lack)) finds = refl
+
+-- ---- what is named
+
+-- what was named is taken, and the rest goes on with it
+pub name_taken : {X : Type 0} (read : Result X (List ℕ)) (A H : X → Answer → Type 0) (x : X) (result : Result Outcome Stop) → read ≡ Ok x → FindsRightly (A x) (H x) result → FindsRightly (After read A) (After read H) result
+name_taken {X} read A H x result taken finds = let P : Result X (List ℕ) → Type 0 = λ r. FindsRightly (After r A) (After r H) result in subst P (sym taken) finds
+
+name_stops_there : {X : Type 0} (read : Result X (List ℕ)) (A H : X → Answer → Type 0) (stop : Stop) → IsTaken {X = X} (Err stop) read → FindsRightly (After read A) (After read H) (Err stop)
+name_stops_there {X} read A H (Refused text) taken =
+    let P : Result X (List ℕ) → Type 0 = λ r. After r A (refused text.items) in
+    let Q : Result X (List ℕ) → Type 0 = λ r. After r H (refused text.items) in
+    record { is = subst P (sym taken) refl; headline = subst Q (sym taken) refl }
+name_stops_there read A H (Unread place) taken = absurd taken
+name_stops_there read A H (Memory lack) taken = tt
+
+-- what was named isn't there
+pub name_stops : {X : Type 0} (read : Result X (List ℕ)) (A H : X → Answer → Type 0) (stop : Stop) (result : Result Outcome Stop) → IsTaken {X = X} (Err stop) read → IsErrAnd result (λ handed. handed ≡ stop) →
+    FindsRightly (After read A) (After read H) result
+name_stops read A H stop (Ok outcome) taken hands = absurd hands
+name_stops read A H stop (Err handed) taken hands =
+    let P : Stop → Type 0 = λ s. FindsRightly (After read A) (After read H) (Err s) in subst P (sym hands) (name_stops_there read A H stop taken)
 
 -- ---- statuses of what is found
 

@@ -13,4 +13,5 @@ pub mod ReadFits
 pub mod AfterFiles
 pub mod Generating
 pub mod Loading
+pub mod Showing
 pub mod Answering

@@ -9,9 +9,9 @@ use Rattle.fab_report.specs.declared.recipe.Recipe.{Recipe}
 use Rattle.fab_report.specs.Laws.{HasSeed}
 use Rattle.fab_report.specs.Recipes.{fits}
 use Rattle.fab_top.specs.declared.command.Command.{Command}
-use Rattle.fab_top.specs.declared.command.Command.TheVariants.{Check, Certify, Convert, Load, Gen}
+use Rattle.fab_top.specs.declared.command.Command.TheVariants.{Check, Certify, Convert, Show, Load, Gen}
 use Rattle.fab_top.specs.Ran.{files_of}
-use Rattle.fab_top.specs.Words.{texts, is_file, named, number_in, kinds, two_files, recipe_of, recipe_in, gen_words, commands, command_of}
+use Rattle.fab_top.specs.Words.{texts, is_file, named, number_in, kinds, two_files, recipe_of, recipe_in, lid_in, show_from_to, show_words, gen_words, commands, command_of}
 use Rattle.fab_top.proofs.WordNumbers.{number_is_low}
 
 -- each place is below a number
@@ -56,6 +56,23 @@ two_within make both [] made e = cc
 two_within make both (a ∷ []) made e = cc
 two_within make both (a ∷ b ∷ []) made e = made_if 3 (is_file a && is_file b) (make 1 2) made e both
 two_within make both (a ∷ b ∷ c ∷ rest) made e = cc
+
+made_show : (from to : Option ℕ) (made : Command) → show_from_to from to ≡ Some made → IsSpelledBy 5 made
+made_show (Some from) (Some to) made e = made_as 5 _ made e (record { places = (omega arith, (omega arith, tt)); recipe = tt })
+made_show (Some from) None made e = cc
+made_show None to made e = cc
+
+made_when : (b : Bool) (o : Option Command) (made : Command) → (if b then o else None) ≡ Some made → o ≡ Some made
+made_when true o made e = e
+made_when false o made e = cc
+
+show_within : SpellsRightly show_words
+show_within [] made e = cc
+show_within (a ∷ []) made e = cc
+show_within (a ∷ b ∷ []) made e = cc
+show_within (a ∷ b ∷ c ∷ []) made e = cc
+show_within (a ∷ b ∷ c ∷ d ∷ []) made e = made_show (lid_in c) (lid_in d) made (made_when (is_file a && is_file b) (show_from_to (lid_in c) (lid_in d)) made e)
+show_within (a ∷ b ∷ c ∷ d ∷ x ∷ rest) made e = cc
 
 abbrev IfFitting : Option Recipe → Type 0
 IfFitting None = Unit {0}
@@ -125,8 +142,11 @@ all_right = (
     (
       two_within (λ f p. Convert f p) (record { places = both_places; recipe = tt }),
       (
-        two_within (λ f p. Load f p) (record { places = both_places; recipe = tt }),
-        (gen_within, tt),
+        show_within,
+        (
+          two_within (λ f p. Load f p) (record { places = both_places; recipe = tt }),
+          (gen_within, tt),
+        ),
       ),
     ),
   ),

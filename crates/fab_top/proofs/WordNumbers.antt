@@ -1,15 +1,16 @@
 -- The numbers that whole words are, by the digits that are read in them.
-use Rattle.std.proofs.Common.{◌≡◌, ℕ, ◌+◌, ◌^◌, ◌<◌, ◌≤◌, Bool, true, false, cond, not, ◌&&◌, List, [], ◌∷◌, Option, Some, None, length, nat_lt, nat_le, refl, sym, ap, subst, ◌∙◌, arith, eq-eqb}
+use Rattle.std.proofs.Common.{◌≡◌, ℕ, ◌+◌, ◌^◌, ◌<◌, ◌≤◌, Bool, true, false, cond, not, ◌&&◌, List, [], ◌∷◌, Option, Some, None, length, drop, codes, nat_lt, nat_le, refl, sym, ap, subst, ◌∙◌, arith, eq-eqb}
 use Rattle.std.specs.Prelude.{◌==◌, if◌then◌else◌, IfSome}
-use Rattle.std.specs.List.{list_all}
+use Rattle.std.specs.List.{list_all, starts_with}
 use Rattle.std.specs.Char.{is_digit}
 use Rattle.std.proofs.lemmas.Bool.{ne_eqb, lt-ltb, le-leb, leb-true}
 use Rattle.std.proofs.lemmas.Bool.Decides.{nat_tests}
+use Rattle.std.proofs.lemmas.List.{length-drop}
 use Rattle.std.proofs.lemmas.List.Sums.{take_while-cons}
 use Rattle.fab_text.specs.Digits.{digits_at_front, number_spelled}
-use Rattle.fab_text.specs.Fields.{dec_up_to}
-use Rattle.fab_text.specs.Fronts.{dec_at}
-use Rattle.fab_dump.proofs.Reading.FieldNumbers.{not_too_great}
+use Rattle.fab_text.specs.Fields.{dec_up_to, hex}
+use Rattle.fab_text.specs.Fronts.{dec_at, hex_at}
+use Rattle.fab_dump.proofs.Reading.FieldNumbers.{not_too_great, hex_fits}
 use Rattle.fab_top.specs.Words.{has_leading_zero, number_in}
 
 -- ---- digits and nothing else
@@ -132,3 +133,82 @@ unless_zero false greatest read low = low
 
 pub number_is_low : (greatest : ℕ) (word : List ℕ) → IfSome (number_in greatest word) (λ number. number ≤ greatest)
 number_is_low greatest word = unless_zero (has_leading_zero word) greatest (dec_up_to greatest word) (not_too_great (length word) greatest word)
+
+-- ---- hexadecimal numbers of at most four digits
+
+abbrev ends_at : ℕ → Option (ℕ × ℕ) → Option ℕ
+ends_at end None = None
+ends_at end (Some read) = if read.1 == end then Some read.0 else None
+
+ends_there : (number last end : ℕ) → last ≡ end → ends_at end (Some (number, last)) ≡ Some number
+ends_there number last end at = ap (λ (test : Bool). if test then Some number else None) (eq-eqb last end at)
+
+ends_elsewhere : (number last end : ℕ) → (last ≡ end → ⊥) → ends_at end (Some (number, last)) ≡ None
+ends_elsewhere number last end past = ap (λ (test : Bool). if test then Some number else None) (ne_eqb last end past)
+
+hex_whole : (some : Bool) (number last end : ℕ) → last ≡ end → cond (some && true && true) (Some number) None ≡ ends_at end (cond (some && true) (Some (number, last)) None)
+hex_whole true number last end at = sym (ends_there number last end at)
+hex_whole false number last end at = refl
+
+hex_fewer : (a test : Bool) (number other last end : ℕ) → last < end → cond (a && false) (Some number) None ≡ ends_at end (cond test (Some (other, last)) None)
+hex_fewer true true number other last end before = sym (ends_elsewhere other last end (λ e. omega (arith, e, before)))
+hex_fewer true false number other last end before = refl
+hex_fewer false true number other last end before = sym (ends_elsewhere other last end (λ e. omega (arith, e, before)))
+hex_fewer false false number other last end before = refl
+
+abbrev IsHexRead : Bool → ℕ → List ℕ → Bool → List ℕ → Type 0
+IsHexRead begun size rest all digits =
+    cond (begun && nat_lt 2 size && nat_le size 6 && all) (Some (number_spelled 16 rest)) None
+    ≡ ends_at size (cond (not (length digits == 0) && nat_lt (length digits) 17) (Some (number_spelled 16 digits, 2 + length digits)) None)
+
+some_behind : (size count : ℕ) → size ≡ 2 + count → nat_lt 2 size ≡ not (count == 0)
+some_behind size count e = grind (arith, nat_tests, e)
+
+hex_all : (begun : Bool) (size : ℕ) (rest : List ℕ) → begun ≡ true → size ≡ 2 + length rest → size ≤ 6 → IsHexRead begun size rest true rest
+hex_all begun size rest e same short =
+    ap (λ (test : Bool). cond (test && nat_lt 2 size && nat_le size 6 && true) (Some (number_spelled 16 rest)) None) e
+    ∙ ap (λ (test : Bool). cond (test && nat_le size 6 && true) (Some (number_spelled 16 rest)) None) (some_behind size (length rest) same)
+    ∙ ap (λ (test : Bool). cond (not (length rest == 0) && test && true) (Some (number_spelled 16 rest)) None) (le-leb size 6 short)
+    ∙ hex_whole (not (length rest == 0)) (number_spelled 16 rest) (2 + length rest) size (sym same)
+    ∙ ap (λ (test : Bool). ends_at size (cond (not (length rest == 0) && test) (Some (number_spelled 16 rest, 2 + length rest)) None)) (sym (lt-ltb (length rest) 17 (omega (arith, same, short))))
+
+hex_by : (begun : Bool) (size : ℕ) (rest digits : List ℕ) (all : Bool) → begun ≡ true → size ≡ 2 + length rest → size ≤ 6 → ByDigits rest all digits → IsHexRead begun size rest all digits
+hex_by begun size rest digits true e same short by = subst (IsHexRead begun size rest true) (sym (by.whole refl)) (hex_all begun size rest e same short)
+hex_by begun size rest digits false e same short by =
+    hex_fewer (begun && nat_lt 2 size && nat_le size 6) (not (length digits == 0) && nat_lt (length digits) 17) (number_spelled 16 rest) (number_spelled 16 digits) (2 + length digits) size
+    (omega (arith, by.fewer refl, same))
+
+begins_with_two : (word : List ℕ) → starts_with (λ x y. x == y) word (codes "0x") ≡ true → 2 ≤ length word
+begins_with_two [] e = cc
+begins_with_two (a ∷ []) e = elim (48 == a) as (λ test. (test && false) ≡ true → 2 ≤ length (a ∷ [])) [
+  | true ↦ λ no. cc
+  | false ↦ λ no. cc
+] e
+begins_with_two (a ∷ b ∷ bytes) e = omega arith
+
+hex_is : (word text : List ℕ) (read : Option (ℕ × ℕ)) → starts_with (λ x y. x == y) text (codes "0x") ≡ true → length text ≤ 6 → text ≡ word → read ≡ hex_at text 2 →
+    hex 4 word ≡ ends_at (length text) read
+hex_is word text read begun short same is =
+    ap (hex 4) (sym same)
+    ∙ hex_by (starts_with (λ x y. x == y) text (codes "0x")) (length text) (drop 2 text) (digits_at_front 16 (drop 2 text)) (are_digits 16 (drop 2 text)) begun
+    (omega (arith, begins_with_two text begun, length-drop 2 text)) short (by_digits 16 (drop 2 text))
+    ∙ ap (ends_at (length text)) (sym is)
+
+pub hex_read : (word text : List ℕ) (read : Option (ℕ × ℕ)) (number end : ℕ) → starts_with (λ x y. x == y) text (codes "0x") ≡ true → length text ≤ 6 → text ≡ word → read ≡ hex_at text 2 →
+    read ≡ Some (number, end) → end ≡ length text → Some number ≡ hex 4 word
+hex_read word text read number end begun short same is found at =
+    sym (hex_is word text read begun short same is ∙ ap (ends_at (length text)) found ∙ ends_there number end (length text) at)
+
+pub hex_is_low : (word : List ℕ) (number : ℕ) → Some number ≡ hex 4 word → number < 65536
+hex_is_low word number is =
+    let P : Option ℕ → Type 0 = λ o. IfSome o (λ n. n < 16 ^ 4) in
+    let low : number < 16 ^ 4 = subst P (sym is) (hex_fits 4 word) in omega (arith, low)
+
+pub hex_goes_on : (word text : List ℕ) (read : Option (ℕ × ℕ)) (number end : ℕ) → starts_with (λ x y. x == y) text (codes "0x") ≡ true → length text ≤ 6 → text ≡ word → read ≡ hex_at text 2 →
+    read ≡ Some (number, end) → (end ≡ length text → ⊥) → None ≡ hex 4 word
+hex_goes_on word text read number end begun short same is found past =
+    sym (hex_is word text read begun short same is ∙ ap (ends_at (length text)) found ∙ ends_elsewhere number end (length text) past)
+
+pub hex_missing : (word text : List ℕ) (read : Option (ℕ × ℕ)) → starts_with (λ x y. x == y) text (codes "0x") ≡ true → length text ≤ 6 → text ≡ word → read ≡ hex_at text 2 →
+    read ≡ None → None ≡ hex 4 word
+hex_missing word text read begun short same is found = sym (hex_is word text read begun short same is ∙ ap (ends_at (length text)) found)

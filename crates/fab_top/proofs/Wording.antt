@@ -5,8 +5,11 @@ use Rattle.std.specs.Str.{bytes_eq}
 use Rattle.std.specs.String.{string_bytes}
 use Rattle.std.proofs.lemmas.Slice.Eq.{bytes_eq-Decides}
 use Rattle.std.specs.Bool.{Decides}
+use Rattle.fab_model.specs.declared.rows.Lid.{Lid}
+use Rattle.fab_model.specs.Topology.{lid_id}
 use Rattle.fab_top.specs.declared.command.Command.{Command}
-use Rattle.fab_top.specs.Words.{texts, named, kinds, gen_words, command_of, commands}
+use Rattle.fab_top.specs.declared.command.Command.TheVariants.{Show}
+use Rattle.fab_top.specs.Words.{texts, named, kinds, show_from_to, show_words, gen_words, command_of, commands}
 
 -- a word that a table does not begin with is looked for behind
 other_word : (b : Bool) (xs ys : List ℕ) → Decides b (xs ≡ ys) → (ys ≡ xs → ⊥) → b ≡ false
@@ -39,11 +42,29 @@ no_recipe (a ∷ b ∷ c ∷ []) other = refl
 no_recipe (a ∷ b ∷ c ∷ d ∷ []) other = absurd (other (omega arith))
 no_recipe (a ∷ b ∷ c ∷ d ∷ x ∷ rest) other = refl
 
+pub show_to_missing : (from to : Option ℕ) → None ≡ option_map lid_id to → None ≡ show_from_to from to
+show_to_missing (Some from) (Some to) e = cc
+show_to_missing (Some from) None e = refl
+show_to_missing None to e = refl
+
+pub show_both : (from to : Option ℕ) (a b : Lid) → Some a ≡ option_map lid_id from → Some b ≡ option_map lid_id to → Some (Show 1 2 a b) ≡ show_from_to from to
+show_both (Some from) (Some to) a b first second = let one : a ≡ lid_id from = cc in let two : b ≡ lid_id to = cc in ap (λ (x : Lid). Some (Show 1 2 x b)) one ∙ ap (λ (x : Lid). Some (Show 1 2 (lid_id from) x)) two
+show_both (Some from) None a b first second = cc
+show_both None to a b first second = cc
+
+pub no_show : {Z : Type 0} (others : List (String Z)) → (length others ≡ 4 → ⊥) → None ≡ show_words (texts others)
+no_show [] other = refl
+no_show (a ∷ []) other = refl
+no_show (a ∷ b ∷ []) other = refl
+no_show (a ∷ b ∷ c ∷ []) other = refl
+no_show (a ∷ b ∷ c ∷ d ∷ []) other = absurd (other (omega arith))
+no_show (a ∷ b ∷ c ∷ d ∷ x ∷ rest) other = refl
+
 pub no_such_command : {Z : Type 0} (words : List (String Z)) (name : String Z) → 0 < length words → name ≡ slice_index_or words 0 name →
-    (string_bytes name ≡ codes "check" → ⊥) → (string_bytes name ≡ codes "certify" → ⊥) → (string_bytes name ≡ codes "convert" → ⊥) → (string_bytes name ≡ codes "load" → ⊥) →
+    (string_bytes name ≡ codes "check" → ⊥) → (string_bytes name ≡ codes "certify" → ⊥) → (string_bytes name ≡ codes "convert" → ⊥) → (string_bytes name ≡ codes "show" → ⊥) → (string_bytes name ≡ codes "load" → ⊥) →
     (string_bytes name ≡ codes "gen" → ⊥) → None ≡ command_of (texts words)
-no_such_command [] name some is check certify convert load gen = absurd (omega (arith, some))
-no_such_command {Z} (word ∷ others) name some is check certify convert load gen =
+no_such_command [] name some is check certify convert show load gen = absurd (omega (arith, some))
+no_such_command {Z} (word ∷ others) name some is check certify convert show load gen =
     let P : String Z → Type 0 = λ w. None ≡ command_of (texts (w ∷ others)) in
     subst P is (sym (ap (λ (o : Option (List (List ℕ) → Option Command)). option_and_then (λ form. form (texts others)) o)
-    (not_named commands (string_bytes name) (check, (certify, (convert, (load, (gen, tt))))))))
+    (not_named commands (string_bytes name) (check, (certify, (convert, (show, (load, (gen, tt)))))))))

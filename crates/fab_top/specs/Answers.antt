@@ -1,6 +1,10 @@
 -- The answer to words and files. A command that is added adds a case to `IsAnswerTo`, and the words of its case.
 use Rattle.std.specs.Prelude.{◌≡◌, ℕ, List, [], Option, None, Some, MatchOption}
+use Rattle.fab_model.specs.declared.rows.Place.{Place}
 use Rattle.fab_model.specs.Topology.{Topology}
+use Rattle.fab_tables.specs.declared.end.End.{End}
+use Rattle.fab_tables.specs.declared.end.End.TheVariants.{Delivered}
+use Rattle.fab_tables.specs.Route.{route}
 use Rattle.fab_tables.specs.declared.plan.Plan.{Plan}
 use Rattle.fab_tables.specs.declared.verdict.Verdict.{Verdict}
 use Rattle.fab_tables.specs.declared.verdict.Verdict.TheVariants.{Routes, Lanes}
@@ -12,15 +16,17 @@ use Rattle.fab_certify.specs.declared.certified.Certified.TheVariants.{Numbers, 
 use Rattle.fab_certify.specs.Certificate.{IsCertificate}
 use Rattle.fab_netdiscover.specs.Writing.{text_of}
 use Rattle.fab_report.specs.Loads.{loads_of}
+use Rattle.fab_report.specs.Shown.{shown_text}
 use Rattle.fab_report.specs.Recipes.{generated}
 use Rattle.fab_top.specs.declared.command.Command.{Command}
-use Rattle.fab_top.specs.declared.command.Command.TheVariants.{Check, Certify, Convert, Load, Gen}
+use Rattle.fab_top.specs.declared.command.Command.TheVariants.{Check, Certify, Convert, Show, Load, Gen}
 use Rattle.fab_top.specs.Words.{command_of}
 use Rattle.fab_top.specs.Usage.{usage_text}
 use Rattle.fab_top.specs.Answer.{Answer, done, no}
-use Rattle.fab_top.specs.Texts.{verdict_text, ring_text}
+use Rattle.fab_top.specs.Texts.{verdict_text, ring_text, from_text, end_text}
+use Rattle.fab_top.specs.Files.{known_place}
 use Rattle.fab_top.specs.ReportTexts.{load_text}
-use Rattle.fab_top.specs.Seen.{Seen, WithBoth}
+use Rattle.fab_top.specs.Seen.{Seen, After, WithBoth}
 
 -- ---- check
 
@@ -56,6 +62,20 @@ IsCertifyAnswer t p answer = (certified : Certified) × IsCertificate t p certif
 abbrev pub IsPlanText : Topology → Plan → Answer → Type 0
 IsPlanText t p answer = answer ≡ done (plan_text t p)
 
+-- ---- show
+
+-- a route that isn't delivered is told on both outputs
+abbrev pub shown_answer : Topology → ℕ → ℕ → List ℕ → End → Answer
+shown_answer t from lid text Delivered = done text
+shown_answer t from lid text end = record { status = 1; out = text; err = from_text t lid from (end_text end) }
+
+abbrev pub IsShown : Topology → Plan → ℕ → Place → Answer → Type 0
+IsShown t p lid from answer = answer ≡ shown_answer t from.switch.0 lid (shown_text t p from lid) (route t p.tables from.switch.0 lid).end
+
+-- the one LID's place is asked for before the other's
+abbrev pub IsShowAnswer : ℕ → ℕ → Topology → Plan → Answer → Type 0
+IsShowAnswer from to t p answer = After (known_place t from) (λ place. After (known_place t to) (λ far. IsShown t p to place)) answer
+
 -- ---- load
 
 abbrev pub IsLoadAnswer : Topology → Plan → Answer → Type 0
@@ -72,6 +92,7 @@ abbrev pub IsAnswerTo : Seen → Command → Answer → Type 0
 IsAnswerTo w (Check fabric plan) answer = WithBoth w fabric plan IsCheckAnswer answer
 IsAnswerTo w (Certify fabric plan) answer = WithBoth w fabric plan IsCertifyAnswer answer
 IsAnswerTo w (Convert fabric plan) answer = WithBoth w fabric plan IsPlanText answer
+IsAnswerTo w (Show fabric plan from to) answer = WithBoth w fabric plan (IsShowAnswer from.0 to.0) answer
 IsAnswerTo w (Load fabric plan) answer = WithBoth w fabric plan IsLoadAnswer answer
 IsAnswerTo w (Gen recipe) answer = IsFabricText (generated recipe) answer
 

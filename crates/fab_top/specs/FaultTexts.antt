@@ -7,6 +7,7 @@ use Rattle.fab_netdiscover.specs.declared.fault.ReadFault.TheVariants as read
 use Rattle.fab_netdiscover.specs.declared.fault.BadKind.{BadKind}
 use Rattle.fab_netdiscover.specs.declared.fault.BadKind.TheVariants as bad
 use Rattle.fab_dump.specs.declared.fault.PlanFault.{PlanFault}
+use Rattle.fab_dump.specs.Writing.{hex4}
 use Rattle.fab_dump.specs.declared.fault.PlanFault.TheVariants as plan
 
 -- behind the file's name, and behind its name and a line
@@ -59,3 +60,7 @@ plan_fault_text name (plan.BadNumber line) = on_line name line (codes "bad numbe
 plan_fault_text name (plan.TooManyPairs line) = on_line name line (codes "too many pair maps")
 plan_fault_text name plan.NoEnd = in_file name (codes "no end")
 plan_fault_text name (plan.Memory refused) = []
+
+-- what was named and isn't in the fabric
+abbrev pub unknown_lid_text : ℕ → List ℕ
+unknown_lid_text lid = in_file (codes "lid " ++ hex4 lid) (codes "not in the fabric")

@@ -1,12 +1,13 @@
--- What the files of the words say. What can't be taken is refused with a text.
-use Rattle.std.specs.Prelude.{ℕ, List, length, Result, Ok, Err, nat_lt, if◌then◌else◌}
+-- What the files of the words say, and what else the words name. What can't be taken is refused with a text.
+use Rattle.std.specs.Prelude.{ℕ, List, length, Result, Ok, Err, ok_or, nat_lt, if◌then◌else◌}
 use Rattle.fab_text.specs.Readings.{◌>>=◌}
-use Rattle.fab_model.specs.Topology.{Topology}
+use Rattle.fab_model.specs.declared.rows.Place.{Place}
+use Rattle.fab_model.specs.Topology.{Topology, place_of}
 use Rattle.fab_model.specs.Built.{built}
 use Rattle.fab_netdiscover.specs.Reading.{records_in}
 use Rattle.fab_tables.specs.declared.plan.Plan.{Plan}
 use Rattle.fab_dump.specs.Reading.{plan_of}
-use Rattle.fab_top.specs.FaultTexts.{too_long_text, read_fault_text, fabric_fault_text, plan_fault_text}
+use Rattle.fab_top.specs.FaultTexts.{too_long_text, read_fault_text, fabric_fault_text, plan_fault_text, unknown_lid_text}
 
 -- the greatest lengths in bytes
 abbrev pub fabric_limit : ℕ
@@ -31,3 +32,9 @@ fabric_in name bytes = within fabric_limit name bytes (
 
 abbrev pub plan_in : Topology → List ℕ → List ℕ → Result Plan (List ℕ)
 plan_in t name bytes = within plan_limit name bytes (by_text (plan_fault_text name) (plan_of t bytes))
+
+-- ---- what is named
+
+-- the place of a named LID
+abbrev pub known_place : Topology → ℕ → Result Place (List ℕ)
+known_place t lid = ok_or (place_of t lid) (unknown_lid_text lid)

@@ -1,6 +1,7 @@
 -- What the program promises of its answers.
 use Rattle.std.specs.Prelude.{◌≡◌, ◌↔◌, ℕ, ◌≤◌, List, length, None, Some, Ok, MatchOption}
 use Rattle.fab_graph.specs.Walks.{IsAcyclic, Rises}
+use Rattle.fab_model.specs.declared.rows.Place.{Place}
 use Rattle.fab_model.specs.Topology.{Topology}
 use Rattle.fab_model.specs.Connected.{IsConnectedTo}
 use Rattle.fab_model.specs.WellFormed.{IsFabric}
@@ -16,12 +17,12 @@ use Rattle.fab_certify.specs.Numbered.{IsSound}
 use Rattle.fab_report.specs.declared.recipe.Recipe.{Recipe}
 use Rattle.fab_report.specs.Recipes.{generated}
 use Rattle.fab_top.specs.declared.command.Command.{Command}
-use Rattle.fab_top.specs.declared.command.Command.TheVariants.{Check, Certify, Convert, Load, Gen}
+use Rattle.fab_top.specs.declared.command.Command.TheVariants.{Check, Certify, Convert, Show, Load, Gen}
 use Rattle.fab_top.specs.Words.{command_of}
 use Rattle.fab_top.specs.Answer.{Answer}
-use Rattle.fab_top.specs.Files.{fabric_limit, fabric_in, plan_in}
+use Rattle.fab_top.specs.Files.{fabric_limit, fabric_in, plan_in, known_place}
 use Rattle.fab_top.specs.Texts.{ok_routes, ok_lanes}
-use Rattle.fab_top.specs.Seen.{Seen, WithBoth}
+use Rattle.fab_top.specs.Seen.{Seen, After, WithBoth}
 
 -- following the tables from every switch reaches every LID connected to it, and meets no switch twice
 abbrev pub FollowsWell : Topology → Entries → Type 0
@@ -70,6 +71,13 @@ pub record CertifiesTruly (t : Topology) (p : Plan) (answer : Answer) : Type 0 w
 abbrev pub ConvertsTruly : Topology → Plan → Answer → Type 0
 ConvertsTruly t p answer = Done answer × IsReadAgain t p answer.out
 
+-- it is done exactly where the route is delivered
+abbrev pub IsDoneIfDelivered : Topology → Plan → ℕ → Place → Answer → Type 0
+IsDoneIfDelivered t p lid from answer = Done answer ↔ ((route t p.tables from.switch.0 lid).end ≡ Delivered)
+
+abbrev pub ShowsTruly : ℕ → ℕ → Topology → Plan → Answer → Type 0
+ShowsTruly from to t p answer = After (known_place t from) (λ place. After (known_place t to) (λ far. IsDoneIfDelivered t p to place)) answer
+
 -- the loads are always told
 abbrev pub IsDone : Topology → Plan → Answer → Type 0
 IsDone t p answer = Done answer
@@ -90,6 +98,7 @@ abbrev pub KeepsHeadlineOf : Seen → Command → Answer → Type 0
 KeepsHeadlineOf w (Check fabric plan) answer = WithBoth w fabric plan ChecksTruly answer
 KeepsHeadlineOf w (Certify fabric plan) answer = WithBoth w fabric plan CertifiesTruly answer
 KeepsHeadlineOf w (Convert fabric plan) answer = WithBoth w fabric plan ConvertsTruly answer
+KeepsHeadlineOf w (Show fabric plan from to) answer = WithBoth w fabric plan (ShowsTruly from.0 to.0) answer
 KeepsHeadlineOf w (Load fabric plan) answer = WithBoth w fabric plan IsDone answer
 KeepsHeadlineOf w (Gen recipe) answer = GeneratesTruly recipe answer
 

@@ -1,19 +1,41 @@
 //! The commands that the words may ask for. Files are named by the places of their words, so that one name may stand
 //! for two files, as `-` does.
 
+use fab_model::Lid;
 use fab_report::Recipe;
 
 /// What the words ask for. A file is named by the place of its word in the list of words, from 0.
 #[derive(Clone, Copy, Debug, PartialEq, Eq)]
 pub enum Command {
     /// The verdict on a plan of a fabric.
-    Check { fabric: usize, plan: usize },
+    Check {
+        fabric: usize,
+        plan: usize,
+    },
     /// A plan of a fabric with the numbers that certify it, or the first fault or the ring that forbids them.
-    Certify { fabric: usize, plan: usize },
+    Certify {
+        fabric: usize,
+        plan: usize,
+    },
     /// A plan of a fabric, written as plans are written now.
-    Convert { fabric: usize, plan: usize },
+    Convert {
+        fabric: usize,
+        plan: usize,
+    },
+    /// The route of a plan from the place of one LID to another.
+    Show {
+        fabric: usize,
+        plan: usize,
+        from: Lid,
+        to: Lid,
+    },
     /// How many routes of a plan go over each channel of its fabric.
-    Load { fabric: usize, plan: usize },
+    Load {
+        fabric: usize,
+        plan: usize,
+    },
     /// The fabric of a recipe, which fits.
-    Gen { recipe: Recipe },
+    Gen {
+        recipe: Recipe,
+    },
 }

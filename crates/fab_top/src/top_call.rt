@@ -9,7 +9,7 @@ ghost use Rattle.fab_top.specs.Ran.{Ran};
 ghost use Rattle.fab_top.specs.Usage.{usage_text};
 
 use crate::command::Command;
-use crate::commands::{certify, check, convert, generate, load};
+use crate::commands::{certify, check, convert, generate, load, show};
 use crate::fault_texts::unread_text;
 use crate::outcome::{Outcome, Stop};
 use crate::outputs::{put_answer, put_outcome};
@@ -59,6 +59,12 @@ fn obey<F: Shelf>(
         Command::Check { fabric, plan } => check(alloc, words, shelf, fabric, plan),
         Command::Certify { fabric, plan } => certify(alloc, words, shelf, fabric, plan),
         Command::Convert { fabric, plan } => convert(alloc, words, shelf, fabric, plan),
+        Command::Show {
+            fabric,
+            plan,
+            from,
+            to,
+        } => show(alloc, words, shelf, fabric, plan, from, to),
         Command::Load { fabric, plan } => load(alloc, words, shelf, fabric, plan),
         Command::Gen { recipe } => generate(alloc, recipe),
     }

@@ -1,14 +1,17 @@
 //! The grammar of the words, without the program's own name. A command is found by its first word, in time that the
 //! length of the words gives.
-ghost use Rattle.std.specs.Prelude.{◌≡◌, ◌≤◌, IfSome};
+ghost use Rattle.std.specs.Prelude.{◌≡◌, ◌≤◌, IfSome, option_map};
 ghost use Rattle.std.specs.Bool.{then_some};
-ghost use Rattle.fab_top.specs.Words.{texts, command_of, is_file, are_two_files, has_leading_zero, number_in, named, kinds, recipe_in, gen_words};
+ghost use Rattle.fab_top.specs.Words.{texts, command_of, is_file, are_two_files, has_leading_zero, number_in, named, kinds, lid_in, show_from_to, show_words, recipe_in, gen_words};
 ghost use Rattle.fab_top.specs.ReadWords.{or_unknown, wants_memory};
+ghost use Rattle.fab_text.specs.Fields.{hex};
 ghost use Rattle.fab_text.specs.Readings.{Gives};
+ghost use Rattle.fab_model.specs.Topology.{lid_id};
 
 use crate::command::Command;
+use fab_model::Lid;
 use fab_report::{Kind, Recipe};
-use fab_text::read_dec;
+use fab_text::{read_dec, read_hex};
 use std::alloc::{AllocError, Global};
 use thiserror::Error;
 
@@ -50,6 +53,31 @@ fn number_in(greatest: u64, word: &str) -> Option<u64>
     }
 }
 
+/// `0x` and 1 to 4 hexadecimal digits.
+fn hex_in(word: &str) -> Option<u16>
+    ensures { result ≡ hex 4 word.now }
+{
+    let digits = word.as_bytes();
+    if !digits.starts_with(b"0x") || digits.len() > 6 {
+        return None;
+    }
+    match read_hex(digits, 2) {
+        Some((number, end)) if end == digits.len() => Some(number as u16),
+        _ => None,
+    }
+}
+
+/// A LID, which need not be in use.
+fn lid_in(word: &str) -> Option<Lid>
+    ensures { result ≡ option_map lid_id (lid_in word.now) }
+{
+    if let Some(lid) = hex_in(word) {
+        return Some(Lid(lid));
+    }
+    let lid = number_in(65_535, word)? as u16;
+    Some(Lid(lid))
+}
+
 /// Whether the words are two, each of which names a file.
 fn are_two_files(others: &[String]) -> bool
     ensures { result ≡ are_two_files (texts others.now) }
@@ -65,6 +93,31 @@ fn on_two_files(others: &[String], command: Command) -> Option<Command>
     ensures { result ≡ then_some (are_two_files (texts others.now)) command }
 {
     are_two_files(others).then_some(command)
+}
+
+#[tactic(auto, using(crate::proofs::Wording::show_to_missing, crate::proofs::Wording::show_both))]
+fn show_from_to(from: &str, to: &str) -> Option<Command>
+    ensures { result ≡ show_from_to (lid_in from.now) (lid_in to.now) }
+{
+    let from = lid_in(from)?;
+    let to = lid_in(to)?;
+    Some(Command::Show {
+        fabric: 1,
+        plan: 2,
+        from,
+        to,
+    })
+}
+
+fn show_words(others: &[String]) -> Option<Command>
+    ensures { result ≡ show_words (texts others.now) }
+{
+    match others {
+        [fabric, plan, from, to] if is_file(fabric.as_str()) && is_file(plan.as_str()) => {
+            show_from_to(from.as_str(), to.as_str())
+        }
+        _ => None,
+    }
 }
 
 fn kind_in(word: &str) -> Option<Kind>
@@ -114,6 +167,7 @@ fn command_of(words: &[String]) -> Option<Command>
         "check" => on_two_files(others, Command::Check { fabric: 1, plan: 2 }),
         "certify" => on_two_files(others, Command::Certify { fabric: 1, plan: 2 }),
         "convert" => on_two_files(others, Command::Convert { fabric: 1, plan: 2 }),
+        "show" => show_words(others),
         "load" => on_two_files(others, Command::Load { fabric: 1, plan: 2 }),
         "gen" => gen_words(others),
         _ => None,

@@ -19,6 +19,12 @@ convert-requires-clause-fabric g c = (is_spelled c.args.words.now _ _ c.requires
 pub convert-requires-clause-plan : goal.convert-requires-clause-plan
 convert-requires-clause-plan g c = (is_spelled c.args.words.now _ _ c.requires c.in-Convert.is).places.1.0
 
+pub show-requires-clause-fabric : goal.show-requires-clause-fabric
+show-requires-clause-fabric g c = (is_spelled c.args.words.now _ _ c.requires c.in-Show.is).places.0
+
+pub show-requires-clause-plan : goal.show-requires-clause-plan
+show-requires-clause-plan g c = (is_spelled c.args.words.now _ _ c.requires c.in-Show.is).places.1.0
+
 pub load-requires-clause-fabric : goal.load-requires-clause-fabric
 load-requires-clause-fabric g c = (is_spelled c.args.words.now _ _ c.requires c.in-Load.is).places.0
 

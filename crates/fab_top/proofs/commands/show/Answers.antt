@@ -1,0 +1,18 @@
+use Rattle.fab_top.specs.Answers.{IsShowAnswer}
+use Rattle.fab_top.specs.Headline.{ShowsTruly}
+use Rattle.fab_top.proofs.OnBoth.{fabric_stops, plan_stops, both_found}
+use Rattle.fab_top.proofs.commands.show.Goals as goal
+
+pub returns-in_err-fabric : goal.returns-in_err-fabric
+returns-in_err-fabric g c =
+    fabric_stops c.args.fabric c.args.plan (IsShowAnswer c.args.from.0 c.args.to.0) (ShowsTruly c.args.from.0 c.args.to.0) _ _ _ _ _ _ c.in_err-fabric.ensures.taken c.from_residual.ensures.1
+
+pub returns-in_err-plan : goal.returns-in_err-plan
+returns-in_err-plan g c =
+    plan_stops c.args.fabric c.args.plan (IsShowAnswer c.args.from.0 c.args.to.0) (ShowsTruly c.args.from.0 c.args.to.0) _ _ _ _ _ _ _ _ _ c.in_ok-fabric.ensures.taken c.in_ok-fabric.ensures.told c.in_err-plan.ensures.taken
+    c.from_residual-in_err-plan.ensures.1
+
+pub returns : goal.returns
+returns g c =
+    both_found c.args.fabric c.args.plan (IsShowAnswer c.args.from.0 c.args.to.0) (ShowsTruly c.args.from.0 c.args.to.0) _ _ _ _ _ _ _ _ _ _ c.in_ok-fabric.ensures.taken c.in_ok-fabric.ensures.told
+    c.in_ok-plan.ensures.taken c.in_ok-plan.ensures.told c.route_between.ensures
