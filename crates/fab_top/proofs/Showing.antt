@@ -8,8 +8,8 @@ use Rattle.fab_tables.specs.declared.end.End.{End}
 use Rattle.fab_tables.specs.declared.end.End.TheVariants.{Delivered, NoEntry, DeadPort, Astray, Loop}
 use Rattle.fab_tables.specs.declared.plan.Plan.{Plan}
 use Rattle.fab_tables.specs.Route.{route}
-use Rattle.fab_tables.proofs.FallingRoutes.{place_below}
-use Rattle.fab_tables.proofs.Lids.{connected_in_use}
+use Rattle.fab_tables.proofs.Paths.FallingRoutes.{place_below}
+use Rattle.fab_tables.proofs.Joined.Lids.{connected_in_use}
 use Rattle.fab_report.specs.Shown.{shown_text}
 use Rattle.fab_top.specs.declared.outcome.Outcome.{Outcome}
 use Rattle.fab_top.specs.declared.outcome.Stop.{Stop}
