@@ -1,9 +1,10 @@
+//! Each call once, on a plan without lanes and on one with a map for a pair of ports.
 ghost use Rattle.std.specs.Prelude.{◌≡◌, ◌<◌, ◌≤◌, IfSome, Contains};
 ghost use Rattle.fab_model.specs.Topology.{lids_of};
 
 use crate::Checker;
 use fab_model::{ChannelId, Desc, Fabric, Lid, NodeKind, Raw, RawLink, RawNode, SwitchId};
-use fab_tables::{End, Lanes, PairRow, Plan, Tables, Verdict, VirtualChannel};
+use fab_tables::{Lanes, PairRow, Plan, Tables, Verdict, VirtualChannel};
 use std::alloc::{AllocError, Global};
 use std::process::Abort;
 use std::test::Fail;
@@ -167,73 +168,12 @@ fn on_lane(channel: u32, lane: u8) -> VirtualChannel {
     }
 }
 
-#[test]
-fn routes_are_followed_to_their_ends(rt: HostRuntime) -> Result<(), Fail> {
-    let fabric = three_in_a_row(rt.alloc())?;
-    let plan = routes(&rt, rt.alloc(), &fabric)?;
-    assert_eq!(rt; verdict(&rt, rt.alloc(), &fabric, &plan)?, Verdict::Routes);
-    for (at, port, lid, switch, end) in [
-        ((2, 2), 255, 3, 0, End::NoEntry),
-        ((1, 2), 3, 3, 0, End::DeadPort),
-        ((1, 2), 1, 3, 0, End::Loop),
-        ((2, 0), 2, 1, 2, End::DeadPort),
-        ((0, 3), 0, 4, 0, End::Astray),
-    ] {
-        let mut plan = routes(&rt, rt.alloc(), &fabric)?;
-        set_entry(&rt, &fabric, &mut plan, at, port);
-        let fault = Verdict::Unreached {
-            lid: Lid(lid),
-            switch: SwitchId(switch),
-            end,
-        };
-        assert_eq!(rt; verdict(&rt, rt.alloc(), &fabric, &plan)?, fault);
-    }
-    Ok(())
-}
-
-#[test]
-fn levels_lanes_and_numbers_are_checked(rt: HostRuntime) -> Result<(), Fail> {
-    let fabric = three_in_a_row(rt.alloc())?;
-    let not_rising = Verdict::NotRising {
-        lid: Lid(3),
-        source: SOURCE,
-        first: on_lane(0, 0),
-        second: on_lane(2, 0),
-        first_number: 1,
-        second_number: 1,
-    };
-    let no_number = Verdict::NoNumber {
-        lid: Lid(3),
-        source: SOURCE,
-        at: on_lane(2, 0),
-    };
-    for (second, told) in [(2, Verdict::Lanes), (1, not_rising), (0, no_number)] {
-        let mut plan = leveled(&rt, rt.alloc(), &fabric, 1)?;
-        set_number(&rt, &fabric, &mut plan, (0, 0), 1);
-        set_number(&rt, &fabric, &mut plan, (2, 0), second);
-        assert_eq!(rt; verdict(&rt, rt.alloc(), &fabric, &plan)?, told);
-    }
-    let no_level = Verdict::NoLevel {
-        lid: Lid(1),
-        source: SOURCE,
-    };
-    let bad_lane = Verdict::BadLane {
-        lid: Lid(2),
-        source: SOURCE,
-        at: SOURCE,
-    };
-    for (index, level, fault) in [(0, None, no_level), (1, Some(7), bad_lane)] {
-        let mut plan = leveled(&rt, rt.alloc(), &fabric, 1)?;
-        set_level(&rt, &fabric, &mut plan, index, level);
-        assert_eq!(rt; verdict(&rt, rt.alloc(), &fabric, &plan)?, fault);
-    }
-    Ok(())
-}
-
 // The second switch has a map of its own for what comes by port 1 and leaves by port 2.
 #[test]
 fn maps_of_pairs_are_used(rt: HostRuntime) -> Result<(), Fail> {
     let fabric = three_in_a_row(rt.alloc())?;
+    let plain = routes(&rt, rt.alloc(), &fabric)?;
+    assert_eq!(rt; verdict(&rt, rt.alloc(), &fabric, &plain)?, Verdict::Routes);
     let mut plan = leveled(&rt, rt.alloc(), &fabric, 2)?;
     set_number(&rt, &fabric, &mut plan, (0, 0), 1);
     set_number(&rt, &fabric, &mut plan, (2, 1), 2);

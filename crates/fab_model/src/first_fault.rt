@@ -11,8 +11,6 @@ mod ends;
 mod lids;
 mod repeats;
 mod scans;
-#[cfg(test)]
-mod tests;
 
 use crate::{FabricFault, NodeKind, Raw, RawNode};
 use ends::{one_sided, unknown_end};

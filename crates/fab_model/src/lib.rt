@@ -18,8 +18,6 @@ mod laws;
 mod raw;
 mod rows;
 #[cfg(test)]
-mod samples;
-#[cfg(test)]
 mod tests;
 
 pub use desc::Desc;

@@ -1,11 +1,45 @@
-//! Each call of a fabric once, and cables taken out.
+//! Each call of a fabric once, cables taken out, and the words of the faults.
+ghost use Rattle.std.specs.Prelude.{◌≡◌};
 
-use crate::samples::{link, node};
 use crate::{
-    Cable, ChannelId, Fabric, Lid, NodeKind, Place, Raw, SwitchId, TerminalId, WithoutFault,
+    Cable, ChannelId, Desc, Fabric, FabricFault, Lid, NodeKind, Place, Raw, RawLink, RawNode,
+    SwitchId, TerminalId, WithoutFault,
 };
 use std::alloc::{AllocError, Global};
 use std::test::Fail;
+
+fn node(line: u32, kind: NodeKind, guid: u64, ports: u32, lid: u32, lmc: u32) -> RawNode
+    ensures { result.line ≡ line }
+{
+    let desc = Desc::new(b"node");
+    RawNode {
+        line,
+        kind,
+        guid,
+        ports,
+        lid,
+        lmc,
+        desc,
+    }
+}
+
+fn link(line: u32, node: u32, port: u32, far: (NodeKind, u64, u32), lid: u32, lmc: u32) -> RawLink
+    ensures line { result.line ≡ line }
+    ensures node { result.node ≡ node }
+{
+    let (far_kind, far_guid, far_port) = far;
+    RawLink {
+        line,
+        node,
+        port,
+        far_kind,
+        far_guid,
+        far_port,
+        port_guid: 0,
+        lid,
+        lmc,
+    }
+}
 
 /// Two switches that a cable joins, and an adapter at the second port of the one of the lesser GUID.
 fn sample(alloc: Global) -> Result<Raw, AllocError> {
@@ -81,5 +115,39 @@ fn a_cable_is_taken_out(rt: HostRuntime) -> Result<(), Fail> {
     };
     let refused = fabric.without(rt.alloc(), &[first, terminal]);
     assert!(rt; matches!(refused, Err(WithoutFault::UnknownCable { index: 1 })));
+    Ok(())
+}
+
+#[test]
+fn faults_are_told(rt: HostRuntime) -> Result<(), Fail> {
+    let line = 7;
+    for (fault, told) in [
+        (FabricFault::NoSwitch, "no switch"),
+        (FabricFault::TooManySwitches, "too many switches"),
+        (FabricFault::TwiceGuid { line }, "line 7: guid used twice"),
+        (FabricFault::PortRange { line }, "line 7: port out of range"),
+        (FabricFault::TwicePort { line }, "line 7: port used twice"),
+        (FabricFault::UnknownEnd { line }, "line 7: unknown far end"),
+        (
+            FabricFault::Unswitched { line },
+            "line 7: adapter cabled to an adapter",
+        ),
+        (
+            FabricFault::OneSided { line },
+            "line 7: cable stated by one side only",
+        ),
+        (FabricFault::Lmc { line }, "line 7: lmc is not 0"),
+        (FabricFault::BadLid { line }, "line 7: lid out of range"),
+        (FabricFault::TwiceLid { line }, "line 7: lid used twice"),
+        (FabricFault::TooManyLids, "too many lids"),
+        (FabricFault::Memory(AllocError), "out of memory"),
+    ] {
+        assert_eq!(rt; format!(in rt.alloc(); "{fault}")?.as_str(), told);
+    }
+    let unknown = WithoutFault::UnknownCable { index: 3 };
+    assert_eq!(rt;
+        format!(in rt.alloc(); "{unknown}")?.as_str(),
+        "cable 3: not in the fabric"
+    );
     Ok(())
 }

@@ -1,7 +1,8 @@
+//! Each call once, on a switch whose two ports are cabled to each other.
 ghost use Rattle.std.specs.Prelude.{◌≡◌, ◌+◌, length, Contains};
 ghost use Rattle.fab_model.specs.Topology.{lids_of};
 
-use crate::{Columns, End, Lanes, PairRow, Plan, Tables, Tree, follow};
+use crate::{End, Lanes, PairRow, Plan, Tables, Tree, follow};
 use fab_model::{ChannelId, Desc, Fabric, Lid, NodeKind, Raw, RawLink, RawNode, SwitchId};
 use std::alloc::Global;
 use std::process::Abort;
@@ -55,25 +56,22 @@ fn one_lid(rt: &impl Abort, fabric: &Fabric) -> Lid
 }
 
 #[test]
-fn columns(rt: HostRuntime) -> Result<(), Fail> {
-    let fabric = looped_switch(rt.alloc())?;
-    let columns = Columns::of(rt.alloc(), &fabric)?;
-    assert_eq!(rt; columns.len(), 1);
-    assert_eq!(rt; columns.place(Lid(1)), Some(0));
-    assert_eq!(rt; columns.place(NO_LID), None);
-    Ok(())
-}
-
-#[test]
-fn entries(rt: HostRuntime) -> Result<(), Fail> {
+fn cells(rt: HostRuntime) -> Result<(), Fail> {
     let fabric = looped_switch(rt.alloc())?;
     assert_eq!(rt; fabric.switches(), 1);
+    assert_eq!(rt; fabric.channels(), 2);
     let lid = one_lid(&rt, &fabric);
     let mut tables = Tables::new(rt.alloc(), &fabric)?;
-    assert_eq!(rt; tables.get(SWITCH, lid), 255);
     tables.set(SWITCH, lid, 7);
     assert_eq!(rt; tables.get(SWITCH, lid), 7);
     assert_eq!(rt; tables.get(SWITCH, NO_LID), 255);
+    let mut lanes = Lanes::new(rt.alloc(), &fabric, 2)?;
+    lanes.set_level(SWITCH, lid, Some(3));
+    lanes.set_lane(SWITCH, 3, 1);
+    lanes.set_number(ChannelId(1), 14, 9);
+    assert_eq!(rt; lanes.level(SWITCH, lid), Some(3));
+    assert_eq!(rt; lanes.lane(SWITCH, 3), 1);
+    assert_eq!(rt; lanes.number(ChannelId(1), 14), 9);
     Ok(())
 }
 
@@ -108,41 +106,6 @@ fn routes(rt: HostRuntime) -> Result<(), Fail> {
     follows(rt.alloc(), &rt, 2, Some(ChannelId(1)), End::Loop)?;
     follows(rt.alloc(), &rt, 3, None, End::DeadPort)?;
     follows(rt.alloc(), &rt, 255, None, End::NoEntry)
-}
-
-#[test]
-fn levels(rt: HostRuntime) -> Result<(), Fail> {
-    let fabric = looped_switch(rt.alloc())?;
-    assert_eq!(rt; fabric.switches(), 1);
-    let lid = one_lid(&rt, &fabric);
-    let mut lanes = Lanes::new(rt.alloc(), &fabric, 2)?;
-    assert_eq!(rt; lanes.count(), 2);
-    assert_eq!(rt; lanes.level(SWITCH, lid), None);
-    lanes.set_level(SWITCH, lid, Some(3));
-    assert_eq!(rt; lanes.level(SWITCH, lid), Some(3));
-    Ok(())
-}
-
-#[test]
-fn lanes(rt: HostRuntime) -> Result<(), Fail> {
-    let fabric = looped_switch(rt.alloc())?;
-    assert_eq!(rt; fabric.switches(), 1);
-    let mut lanes = Lanes::new(rt.alloc(), &fabric, 2)?;
-    assert_eq!(rt; lanes.lane(SWITCH, 3), 15);
-    lanes.set_lane(SWITCH, 3, 1);
-    assert_eq!(rt; lanes.lane(SWITCH, 3), 1);
-    Ok(())
-}
-
-#[test]
-fn numbers(rt: HostRuntime) -> Result<(), Fail> {
-    let fabric = looped_switch(rt.alloc())?;
-    assert_eq!(rt; fabric.channels(), 2);
-    let mut lanes = Lanes::new(rt.alloc(), &fabric, 2)?;
-    assert_eq!(rt; lanes.number(ChannelId(1), 14), 0);
-    lanes.set_number(ChannelId(1), 14, 9);
-    assert_eq!(rt; lanes.number(ChannelId(1), 14), 9);
-    Ok(())
 }
 
 // Each pair has its own map, whatever the order in which they come.
@@ -202,7 +165,10 @@ fn trees(rt: HostRuntime) -> Result<(), Fail> {
     assert_eq!(rt; fabric.switches(), 1);
     let mut tree = Tree::new(rt.alloc(), &fabric)?;
     assert_eq!(rt; tree.next(SWITCH), None);
-    tree.set(&fabric, SWITCH, None);
-    assert_eq!(rt; tree.next(SWITCH), None);
+    assert_eq!(rt; fabric.channels(), 2);
+    let channel = ChannelId(1);
+    assert_eq!(rt; fabric.channel(channel).tail, SWITCH);
+    tree.set(&fabric, SWITCH, Some(channel));
+    assert_eq!(rt; tree.next(SWITCH), Some(channel));
     Ok(())
 }
