@@ -56,22 +56,14 @@ fn one_lid(rt: &impl Abort, fabric: &Fabric) -> Lid
 }
 
 #[test]
-fn cells(rt: HostRuntime) -> Result<(), Fail> {
+fn entries(rt: HostRuntime) -> Result<(), Fail> {
     let fabric = looped_switch(rt.alloc())?;
     assert_eq!(rt; fabric.switches(), 1);
-    assert_eq!(rt; fabric.channels(), 2);
     let lid = one_lid(&rt, &fabric);
     let mut tables = Tables::new(rt.alloc(), &fabric)?;
     tables.set(SWITCH, lid, 7);
     assert_eq!(rt; tables.get(SWITCH, lid), 7);
     assert_eq!(rt; tables.get(SWITCH, NO_LID), 255);
-    let mut lanes = Lanes::new(rt.alloc(), &fabric, 2)?;
-    lanes.set_level(SWITCH, lid, Some(3));
-    lanes.set_lane(SWITCH, 3, 1);
-    lanes.set_number(ChannelId(1), 14, 9);
-    assert_eq!(rt; lanes.level(SWITCH, lid), Some(3));
-    assert_eq!(rt; lanes.lane(SWITCH, 3), 1);
-    assert_eq!(rt; lanes.number(ChannelId(1), 14), 9);
     Ok(())
 }
 
@@ -106,6 +98,31 @@ fn routes(rt: HostRuntime) -> Result<(), Fail> {
     follows(rt.alloc(), &rt, 2, Some(ChannelId(1)), End::Loop)?;
     follows(rt.alloc(), &rt, 3, None, End::DeadPort)?;
     follows(rt.alloc(), &rt, 255, None, End::NoEntry)
+}
+
+#[test]
+fn levels(rt: HostRuntime) -> Result<(), Fail> {
+    let fabric = looped_switch(rt.alloc())?;
+    assert_eq!(rt; fabric.switches(), 1);
+    let lid = one_lid(&rt, &fabric);
+    let mut lanes = Lanes::new(rt.alloc(), &fabric, 2)?;
+    lanes.set_level(SWITCH, lid, Some(3));
+    assert_eq!(rt; lanes.level(SWITCH, lid), Some(3));
+    Ok(())
+}
+
+#[test]
+fn lanes_and_numbers(rt: HostRuntime) -> Result<(), Fail> {
+    let fabric = looped_switch(rt.alloc())?;
+    assert_eq!(rt; fabric.switches(), 1);
+    assert_eq!(rt; fabric.channels(), 2);
+    let mut mapped = Lanes::new(rt.alloc(), &fabric, 2)?;
+    mapped.set_lane(SWITCH, 3, 1);
+    assert_eq!(rt; mapped.lane(SWITCH, 3), 1);
+    let mut numbered = Lanes::new(rt.alloc(), &fabric, 2)?;
+    numbered.set_number(ChannelId(1), 14, 9);
+    assert_eq!(rt; numbered.number(ChannelId(1), 14), 9);
+    Ok(())
 }
 
 // Each pair has its own map, whatever the order in which they come.
