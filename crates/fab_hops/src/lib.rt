@@ -12,3 +12,6 @@ pub use laws::{
     connected_have_hop_count, hop_count_is_small, hop_count_is_symmetric, no_channel_skips,
     one_centre_order, one_eccentricity, one_hop_count, one_hop_table, some_channel_leads_nearer,
 };
+
+#[cfg(test)]
+mod tests;
