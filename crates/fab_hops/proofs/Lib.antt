@@ -1,0 +1,13 @@
+pub mod Examples
+pub mod HopLaws
+pub mod HopWalks
+pub mod CentreOrders
+pub mod OneTable
+pub mod Leaving
+pub mod Searching
+pub mod Kept
+pub mod Ranked
+pub mod Members
+pub mod Rows
+pub mod GreatestHops
+pub mod Queue

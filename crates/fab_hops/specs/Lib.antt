@@ -1,0 +1,5 @@
+pub mod HopCounts
+pub mod HopCodes
+pub mod Searching
+pub mod Centres
+pub mod Laws
