@@ -1,0 +1,5 @@
+pub mod Eligible
+pub mod Loads
+pub mod MinHop
+pub mod Choosing
+pub mod Laws
