@@ -183,6 +183,9 @@ impl Lanes {
         requires level { level < 16 }
         ensures { result ≡ lane_at self.now s.0 from_port to_port level }
     {
+        if self.pair_rows.is_empty() {
+            return self.lane(s, level);
+        }
         match pair_in(&self.pair_rows, s, from_port, to_port) {
             Some(row) => row.map[usize::from(level)],
             None => self.lane(s, level),

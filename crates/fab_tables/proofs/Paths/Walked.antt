@@ -81,9 +81,11 @@ module _ (t : Topology) (e : Entries) (lid : ℕ) (s : ℕ) where
           marked : (x : ℕ) (first : SwitchId) → slice_index_or (slice_set marks to (Some from)) x None ≡ Some first → ((first.0 < s) × ((route t e x lid).end ≡ Delivered)) ⊎ ((first.0 ≡ s) × IsPassed (suc passed) x)
           marked x first is_first = elim (cases_eq x to) [
             | inl same ↦
-                inr (ap (λ (y : SwitchId). y.0)
-                (sym (same_Some from first (sym (get_or-set_same marks to (Some from) None (omega (arith, low, walking.room))) ∙ ap (λ k. slice_index_or (slice_set marks to (Some from)) k None) (sym same) ∙ is_first))) ∙ is,
-                inr (passed, c, omega arith, at, leads ∙ sym same))
+                inr (
+                  ap (λ (y : SwitchId). y.0)
+                      (sym (same_Some from first (sym (get_or-set_same marks to (Some from) None (omega (arith, low, walking.room))) ∙ ap (λ k. slice_index_or (slice_set marks to (Some from)) k None) (sym same) ∙ is_first))) ∙ is,
+                  inr (passed, c, omega arith, at, leads ∙ sym same),
+                )
             | inr other ↦ elim (walking.marked x first (sym (get_or-set_other marks to x (Some from) None other) ∙ is_first)) [ inl before ↦ inl before | inr own ↦ inr (own.0, later x own.1) ]
           ]
 
