@@ -117,7 +117,7 @@ fn first_fault(
     ensures fault { IfOk result (λ fault. MatchOption fault (IsSound fabric.now tables.now lanes.now) (IsRefusal fabric.now tables.now lanes.now)) }
     ensures room { IsRoomFor fabric.now marks.new }
 {
-    let mut delivered = vec![in alloc; false; fabric.switches() as usize]?;
+    let mut delivered = vec![in alloc; None; fabric.switches() as usize]?;
     let unreached = first_unreached(fabric, tables, components, &mut delivered);
     if unreached.is_some() {
         return Ok(unreached);

@@ -2,9 +2,9 @@
 //! each, so that no packets wait for each other (Dally and Seitz), and if not, the first fault. It stands on
 //! the fabric and the tables alone, and so shares nothing with the engines that make plans.
 //!
-//! For each LID each switch is looked at once, and with lanes once more for each level in use; a start takes
-//! three hops. Without pairs that have a map one start of a source is looked at, and else that of each
-//! terminal.
+//! For each LID each switch is looked at once, and with lanes once more for each level in use and for each start;
+//! two hops more are looked at for a start where pairs of ports have maps. Without such maps one start of a source
+//! is looked at, and else that of each terminal.
 #![tactic(auto)]
 
 ghost use Rattle.std.specs.Prelude.{◌≡◌, ◌↔◌, IfOk, None};
@@ -16,7 +16,7 @@ ghost use Rattle.fab_check.specs.Free.{IsFreeOfDeadlock};
 #[cfg(test)]
 mod tests;
 
-use fab_model::Fabric;
+use fab_model::{Fabric, SwitchId};
 use fab_tables::{
     Components, LaneFaults, Marks, Plan, Starts, Verdict, first_lane_fault, first_unreached,
 };
@@ -30,7 +30,7 @@ pub struct Checker<'f> {
     components: Components<'f>,
     starts: Starts,
     // room for a mark at each switch: that its route to the LID under check is delivered
-    delivered: Vec<bool>,
+    delivered: Vec<Option<SwitchId>>,
     // room for a mark at each switch and level: that the hops behind are judged
     judged: Marks,
 }
@@ -49,14 +49,14 @@ impl<'f> Model for Checker<'f> {
 }
 
 impl<'f> Checker<'f> {
-    /// A checker of plans for this fabric. It has all the memory that its checks need: some 20 bytes for each
+    /// A checker of plans for this fabric. It has all the memory that its checks need: some 32 bytes for each
     /// switch and 16 for each terminal.
     pub fn new(alloc: Global, fabric: &'f Fabric) -> Result<Checker<'f>, AllocError>
         ensures { IfOk result (λ c. c ≡ fabric.now) }
     {
         let components = Components::of(alloc, fabric)?;
         let starts = Starts::of(alloc, fabric)?;
-        let delivered = vec![in alloc; false; fabric.switches() as usize]?;
+        let delivered = vec![in alloc; None; fabric.switches() as usize]?;
         let judged = Marks::new(alloc, fabric)?;
         Ok(Checker {
             fabric,

@@ -11,4 +11,5 @@ pub mod SameRoutes
 pub mod Steps
 pub mod TreeRoutes
 pub mod TreeWalks
+pub mod Walked
 pub mod Ways

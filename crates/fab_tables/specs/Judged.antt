@@ -1,5 +1,5 @@
--- Hops without a fault, and marks of the switches behind which all hops are so.
-use Rattle.std.specs.Prelude.{◌≡◌, ℕ, zero, suc, ◌*◌, ◌<◌, List, length, drop, Option, Some, None, IfSome, Bool, true, false, slice_get, slice_index_or}
+-- Hops without a fault, and marks of the switches from which on all hops are so.
+use Rattle.std.specs.Prelude.{◌≡◌, ℕ, zero, suc, ◌*◌, ◌<◌, List, length, Option, Some, None, IfSome, Bool, true, false, slice_get, slice_index_or}
 use Rattle.fab_model.specs.Topology.{Topology}
 use Rattle.fab_tables.specs.declared.verdict.VirtualChannel.{VirtualChannel}
 use Rattle.fab_tables.specs.declared.lane_faults.LaneFaults.{LaneFaults}
@@ -31,20 +31,15 @@ AreRight faults l hops = (k : ℕ) → IsRightAt faults l hops k
 abbrev pub hops_from : Topology → Entries → LaneTables → ℕ → ℕ → ℕ → ℕ → List VirtualChannel
 hops_from t e l lid s port of_level = on_channels t l of_level port (route t e s lid).channels
 
--- those behind the first; they don't depend on the port
-abbrev pub hops_behind : Topology → Entries → LaneTables → ℕ → ℕ → ℕ → List VirtualChannel
-hops_behind t e l lid s of_level = drop 1 (hops_from t e l lid s 0 of_level)
+-- packets of this level that come to the switch by some port meet no fault from there on
+abbrev pub IsJudgedAt : LaneFaults → Topology → Entries → LaneTables → ℕ → ℕ → ℕ → Type 0
+IsJudgedAt faults t e l lid s of_level = (port : ℕ) × AreRight faults l (hops_from t e l lid s port of_level)
 
 -- room for a mark at each switch and level
 abbrev pub IsRoomFor : Topology → List Bool → Type 0
 IsRoomFor t marks = length marks ≡ length t.switches * 16
 
--- where a switch is marked for a level, all hops behind the one that leaves it are right
+-- each switch that is marked for a level is judged
 pub record AreJudged (faults : LaneFaults) (t : Topology) (e : Entries) (l : LaneTables) (lid : ℕ) (marks : List Bool) : Type 0 where
   pub room : IsRoomFor t marks
-  pub right : (s of_level : ℕ) → of_level < 16 → slice_index_or marks (cell 16 s of_level) false ≡ true → AreRight faults l (hops_behind t e l lid s of_level)
-
--- where the hops behind a switch are right, the new marks are as good as the old ones
-abbrev pub KeepsJudged : Topology → Entries → ℕ → ℕ → ℕ → List Bool → List Bool → Type 0
-KeepsJudged t e lid s of_level old new = (faults : LaneFaults) (l : LaneTables) → AreRight faults l (hops_behind t e l lid s of_level) →
-    AreJudged faults t e l lid old → AreJudged faults t e l lid new
+  pub right : (s of_level : ℕ) → of_level < 16 → slice_index_or marks (cell 16 s of_level) false ≡ true → IsJudgedAt faults t e l lid s of_level

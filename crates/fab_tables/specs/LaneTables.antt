@@ -10,7 +10,7 @@ pub record LaneTables : Type 0 where
   pub switches : ℕ
   pub channels : ℕ
   pub in_use : List ℕ  -- the LIDs in use, ascending
-  pub levels : List (Option ℕ)  -- switch by switch, the service level of each LID in use
+  pub levels : List (Option ℕ)  -- LID by LID, for each of those in use the service level of each switch
   pub general : List ℕ  -- switch by switch, the lane of each of the 16 levels
   pub pairs : List PairRow  -- the pairs of ports that have a map of their own, by (switch, from port, to port)
   pub numbers : List ℕ  -- channel by channel, the number of each of the 15 data lanes; 0 means none
@@ -31,7 +31,7 @@ pub record IsPairRow (switches : ℕ) (p : PairRow) : Type 0 where
 pub record AreLaneTables (l : LaneTables) : Type 0 where
   pub count : (0 < l.count) × (l.count ≤ 15)
   pub ascending : IsStrictlyIncreasing l.in_use
-  pub all_levels : length l.levels ≡ l.switches * length l.in_use
+  pub all_levels : length l.levels ≡ length l.in_use * l.switches
   pub low_levels : All (λ level. IfSome level (λ n. n < 16)) l.levels
   pub all_general : length l.general ≡ l.switches * 16
   pub lanes : All (λ lane. lane < 16) l.general
@@ -43,7 +43,7 @@ pub record AreLaneTables (l : LaneTables) : Type 0 where
 
 abbrev pub level_in_column : LaneTables → ℕ → Option ℕ → Option ℕ
 level_in_column l s None = None
-level_in_column l s (Some i) = slice_index_or l.levels (cell (length l.in_use) s i) None
+level_in_column l s (Some i) = if nat_lt s l.switches then slice_index_or l.levels (cell l.switches i s) None else None
 
 -- the service level of a switch for a LID, if it has one
 abbrev pub level : LaneTables → ℕ → ℕ → Option ℕ
@@ -77,7 +77,7 @@ no_lanes count switches channels in_use =
       switches = switches;
       channels = channels;
       in_use = in_use;
-      levels = replicate (switches * length in_use) None;
+      levels = replicate (length in_use * switches) None;
       general = replicate (switches * 16) 15;
       pairs = [];
       numbers = replicate (channels * 15) 0;
@@ -85,7 +85,7 @@ no_lanes count switches channels in_use =
 
 abbrev pub with_level_in_column : LaneTables → ℕ → Option ℕ → Option ℕ → LaneTables
 with_level_in_column l s new None = l
-with_level_in_column l s new (Some i) = record l { levels = slice_set l.levels (cell (length l.in_use) s i) new }
+with_level_in_column l s new (Some i) = record l { levels = slice_set l.levels (cell l.switches i s) new }
 
 abbrev pub with_level : LaneTables → ℕ → ℕ → Option ℕ → LaneTables
 with_level l s lid new = with_level_in_column l s new (index_of lid l.in_use)

@@ -1,5 +1,6 @@
 -- Routes to one LID, some of which are known to be delivered.
-use Rattle.std.specs.Prelude.{◌≡◌, ℕ, List, length, Contains, Bool, true, false, slice_index_or}
+use Rattle.std.specs.Prelude.{◌≡◌, ℕ, ◌<◌, List, length, Contains, Option, Some, None, slice_index_or}
+use Rattle.fab_model.specs.declared.rows.SwitchId.{SwitchId}
 use Rattle.fab_model.specs.Topology.{Topology, lids_of}
 use Rattle.fab_model.specs.WellFormed.{IsFabric}
 use Rattle.fab_tables.specs.declared.end.End.TheVariants.{Delivered}
@@ -13,7 +14,7 @@ pub record IsToward (t : Topology) (e : Entries) (lid : ℕ) : Type 0 where
   pub fits : EntriesFit t e
   pub in_use : Contains (lids_of t) lid
 
--- each switch that is marked has a delivered route
-pub record AreDelivered (t : Topology) (e : Entries) (lid : ℕ) (marks : List Bool) : Type 0 where
+-- each switch that is marked has a delivered route, and its mark is a switch below this one
+pub record AreDelivered (t : Topology) (e : Entries) (lid below : ℕ) (marks : List (Option SwitchId)) : Type 0 where
   pub room : length marks ≡ length t.switches
-  pub delivered : (s : ℕ) → slice_index_or marks s false ≡ true → (route t e s lid).end ≡ Delivered
+  pub delivered : (s : ℕ) (first : SwitchId) → slice_index_or marks s None ≡ Some first → (first.0 < below) × ((route t e s lid).end ≡ Delivered)

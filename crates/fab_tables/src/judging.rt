@@ -1,20 +1,18 @@
 //! The hops of one route: whether their lanes are below the lane count, their virtual channels have numbers, and
 //! the numbers rise from hop to hop (Dally and Seitz).
 //!
-//! A walk goes on up to the first switch behind which all hops are judged, and one hop past it. Marking goes
-//! along the route once more, up to a switch that is marked. Both take no memory.
-ghost use Rattle.std.specs.Prelude.{◌≡◌, ◌<◌, ◌∷◌, [], None, IfSome, length};
+//! A walk marks the switches that it leaves, and goes on up to the first one that another walk has marked, and
+//! where pairs of ports have maps one hop past it. It takes no memory.
+ghost use Rattle.std.specs.Prelude.{◌≡◌, ◌<◌, ◌∷◌, [], None, IfSome};
 ghost use Rattle.fab_tables.specs.declared.end.End.TheVariants.{Delivered as delivery};
 ghost use Rattle.fab_tables.specs.LaneTables.{AreLaneTables};
 ghost use Rattle.fab_tables.specs.First.{FindsFirst, Beneath};
-ghost use Rattle.fab_tables.specs.Reaching.{IsToward};
 ghost use Rattle.fab_tables.specs.Route.{route as path};
 ghost use Rattle.fab_tables.specs.Starts.{StartsAt};
 ghost use Rattle.fab_tables.specs.LaneFaults.{IsSoughtAt};
 ghost use Rattle.fab_tables.specs.HopFaults.{fault_of_hop, fault_of_number};
-ghost use Rattle.fab_tables.specs.Judged.{AreRight, AreJudged, KeepsJudged, hops_from, IsRoomFor};
+ghost use Rattle.fab_tables.specs.Judged.{AreJudged, IsRoomFor};
 
-use crate::following::follow;
 use crate::lane_faults::LaneFaults;
 use crate::lanes::Lanes;
 use crate::marks::Marks;
@@ -24,9 +22,10 @@ use crate::tables::Tables;
 use crate::verdict::{Verdict, VirtualChannel};
 use fab_model::{Fabric, Lid, SwitchId};
 
-/// The first fault on the route from a start to a LID, for packets of this level. The hop that leaves a marked
-/// switch depends on the port by which the packets come, and so does whether the number of the next is above
-/// its own; the walk ends behind that one.
+/// The first fault on the route from a start to a LID, for packets of this level. Without one the switches of
+/// the route are marked up to one that was marked before. With maps of pairs of ports the hop that leaves such a
+/// switch depends on the port by which the packets come, and so does whether the number of the next is above its
+/// own; the walk ends behind that one.
 pub(crate) fn first_hop_fault(
     fabric: &Fabric,
     tables: &Tables,
@@ -35,13 +34,14 @@ pub(crate) fn first_hop_fault(
     lid: Lid,
     start: Start,
     level: u8,
-    marks: &Marks,
+    marks: &mut Marks,
 ) -> Option<Verdict>
     requires starts { StartsAt fabric.now tables.now lanes.now lid.0 start level }
     requires reaches { (path fabric.now tables.now start.switch.0 lid.0).end ≡ delivery }
-    requires judged { AreJudged faults fabric.now tables.now lanes.now lid.0 marks.now }
+    requires judged { AreJudged faults fabric.now tables.now lanes.now lid.0 marks.old }
     ensures fault { FindsFirst (Beneath (1 ∷ lid.0 ∷ start.switch.0 ∷ start.port ∷ []) (IsSoughtAt faults fabric.now tables.now lanes.now)) result }
-    ensures right { result ≡ None → AreRight faults lanes.now (hops_from fabric.now tables.now lanes.now lid.0 start.switch.0 start.port level) }
+    ensures judged { result ≡ None → AreJudged faults fabric.now tables.now lanes.now lid.0 marks.new }
+    ensures room { IsRoomFor fabric.now marks.new }
 {
     let mut before = None;
     // whether the hops behind the next one are judged already
@@ -56,6 +56,10 @@ pub(crate) fn first_hop_fault(
             return None;
         }
         is_judged = marks.is_marked(at, level);
+        if is_judged && lanes.pairs() == 0 {
+            return None;
+        }
+        marks.mark(at, level);
         before = Some(hop);
     }
     None
@@ -119,34 +123,4 @@ fn number_fault(
         first_number,
         second_number: number,
     })
-}
-
-/// Marks the switches of a delivered route, up to one that is marked already.
-pub(crate) fn mark_route(
-    fabric: &Fabric,
-    tables: &Tables,
-    lid: Lid,
-    from: SwitchId,
-    level: u8,
-    marks: &mut Marks,
-)
-    requires toward { IsToward fabric.now tables.now lid.0 }
-    requires switch { from.0 < length fabric.now.switches }
-    requires level { level < 16 }
-    requires reaches { (path fabric.now tables.now from.0 lid.0).end ≡ delivery }
-    requires room { IsRoomFor fabric.now marks.old }
-    ensures room { IsRoomFor fabric.now marks.new }
-    ensures judged { KeepsJudged fabric.now tables.now lid.0 from.0 level marks.old marks.new }
-{
-    if marks.is_marked(from, level) {
-        return;
-    }
-    marks.mark(from, level);
-    for channel in follow(fabric, tables, from, lid) {
-        let tip = fabric.tip(channel);
-        if marks.is_marked(tip, level) {
-            return;
-        }
-        marks.mark(tip, level);
-    }
 }

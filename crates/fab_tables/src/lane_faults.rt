@@ -4,8 +4,8 @@
 //! Each route is an order of virtual channels; numbers that rise along all of them show that no packets wait
 //! for each other in a ring (Dally and Seitz). LIDs are taken in order, and for each the starts of packets.
 //! What follows behind a switch depends on the switch and the level alone, so it is judged once for a LID:
-//! the cost is that of (LIDs) x (switches) x (levels in use) hops, and three hops for each LID and start. It
-//! takes no memory but the marks, a byte for each switch and level.
+//! the time is that of a hop for each LID, switch and level in use, and of one more for each LID and start, two
+//! where pairs of ports have maps. It takes no memory but the marks, a byte for each switch and level.
 ghost use Rattle.std.specs.Prelude.{◌≡◌, ◌<◌, ◌∷◌, [], None, Some, IsSome, length};
 ghost use Rattle.fab_model.specs.Connected.{IsConnectedTo};
 ghost use Rattle.fab_tables.specs.Fit.{EntriesFit, LanesFit};
@@ -18,7 +18,7 @@ ghost use Rattle.fab_tables.specs.LaneFaults.{IsSoughtAt};
 ghost use Rattle.fab_tables.specs.Judged.{IsRoomFor, AreJudged};
 
 use crate::components::Components;
-use crate::judging::{first_hop_fault, mark_route};
+use crate::judging::first_hop_fault;
 use crate::lanes::Lanes;
 use crate::marks::Marks;
 use crate::starts::{Start, Starts};
@@ -36,8 +36,8 @@ pub enum LaneFaults {
 }
 
 /// The first fault of a plan's lanes, by LID and then by source connected to it, where all routes are
-/// delivered. For each LID it takes two hops for each switch and level, and three for each start; without
-/// maps of pairs one start a source is looked at.
+/// delivered. For each LID it takes a hop for each switch and level in use, and one more for each start, two
+/// where pairs of ports have maps; without them one start a source is looked at.
 pub fn first_lane_fault(
     fabric: &Fabric,
     tables: &Tables,
@@ -120,7 +120,8 @@ fn fault_from(
     requires judged { AreJudged faults fabric.now tables.now lanes.now lid.0 marks.old }
     ensures no_level { level_of lanes.now start.switch.0 lid.0 ≡ None → result ≡ Some (Verdict.NoLevel lid start.switch) }
     ensures hops { IsSome (level_of lanes.now start.switch.0 lid.0) → FindsFirst (Beneath (1 ∷ lid.0 ∷ start.switch.0 ∷ start.port ∷ []) (IsSoughtAt faults fabric.now tables.now lanes.now)) result }
-    ensures judged { AreJudged faults fabric.now tables.now lanes.now lid.0 marks.new }
+    ensures judged { result ≡ None → AreJudged faults fabric.now tables.now lanes.now lid.0 marks.new }
+    ensures room { IsRoomFor fabric.now marks.new }
 {
     let Some(level) = lanes.level(start.switch, lid) else {
         return Some(Verdict::NoLevel {
@@ -128,9 +129,8 @@ fn fault_from(
             source: start.switch,
         });
     };
-    let fault = first_hop_fault(fabric, tables, lanes, faults, lid, start, level, marks);
-    if fault.is_none() {
-        mark_route(fabric, tables, lid, start.switch, level, marks);
+    if lanes.pairs() == 0 && marks.is_marked(start.switch, level) {
+        return None;
     }
-    fault
+    first_hop_fault(fabric, tables, lanes, faults, lid, start, level, marks)
 }

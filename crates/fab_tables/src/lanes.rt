@@ -46,7 +46,7 @@ pub struct Lanes {
     switches: u32,
     channels: u32,
     columns: Columns,
-    // switch by switch, the level of each column
+    // column by column, the level of each switch
     levels: Vec<u8>,
     // switch by switch, the lane of each of the 16 levels
     general: Vec<u8>,
@@ -76,7 +76,7 @@ impl Lanes {
         let columns = Columns::of(alloc, fabric)?;
         let switches = fabric.switches();
         let channels = fabric.channels();
-        let levels = vec![in alloc; NO_LEVEL; switches as usize * columns.len()]?;
+        let levels = vec![in alloc; NO_LEVEL; columns.len() * switches as usize]?;
         let general = vec![in alloc; LANE_15; switches as usize * 16]?;
         let numbers = vec![in alloc; 0; channels as usize * 15]?;
         Ok(Lanes {
@@ -104,7 +104,7 @@ impl Lanes {
         ensures { result ≡ level self.now s.0 lid.0 }
     {
         match self.columns.place(lid) {
-            Some(place) => level_of(self.levels[s.0 as usize * self.columns.len() + place]),
+            Some(place) => level_of(self.levels[place * self.switches as usize + s.0 as usize]),
             None => None,
         }
     }
@@ -117,8 +117,7 @@ impl Lanes {
         ensures { self.new ≡ with_level self.old s.0 lid.0 level }
     {
         if let Some(place) = self.columns.place(lid) {
-            let width = self.columns.len();
-            self.levels[s.0 as usize * width + place] = byte_of(level);
+            self.levels[place * self.switches as usize + s.0 as usize] = byte_of(level);
         }
     }
 
@@ -184,6 +183,9 @@ impl Lanes {
         requires level { level < 16 }
         ensures { result ≡ lane_at self.now s.0 from_port to_port level }
     {
+        if self.pair_rows.is_empty() {
+            return self.lane(s, level);
+        }
         match pair_in(&self.pair_rows, s, from_port, to_port) {
             Some(row) => row.map[usize::from(level)],
             None => self.lane(s, level),

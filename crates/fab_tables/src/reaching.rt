@@ -2,9 +2,9 @@
 //! the entries of forwarding tables don't lead to the LID's place.
 //!
 //! For a LID each switch has one entry, so a route that comes to a switch whose route is delivered is delivered
-//! too: each switch is walked twice for a LID, once to see where its route ends and once to mark it. It takes
-//! no memory but the marks, a byte for each switch.
-ghost use Rattle.std.specs.Prelude.{◌≡◌, ◌<◌, ◌∷◌, [], length, None};
+//! too, and one that comes to a switch of its own is a loop: each switch is stepped from once for a LID. The time
+//! is that of (LIDs) x (switches) steps. It takes no memory but the marks, 8 bytes for each switch.
+ghost use Rattle.std.specs.Prelude.{◌≡◌, ◌<◌, ◌+◌, ◌∷◌, [], length, None};
 ghost use Rattle.fab_tables.specs.declared.end.End.TheVariants.{Delivered as delivery};
 ghost use Rattle.fab_tables.specs.Fit.{EntriesFit};
 ghost use Rattle.fab_tables.specs.Route.{route as path};
@@ -19,13 +19,13 @@ use crate::tables::Tables;
 use crate::verdict::Verdict;
 use fab_model::{Fabric, Lid, SwitchId};
 
-/// The first route that isn't delivered, by LID and then by switch connected to it. For each LID it takes two
-/// steps for each switch.
+/// The first route that isn't delivered, by LID and then by switch connected to it. For each LID it takes one
+/// step for each switch. The list is room for a mark at each switch: the first switch whose route comes there.
 pub fn first_unreached(
     fabric: &Fabric,
     tables: &Tables,
     components: &Components,
-    delivered: &mut [bool],
+    delivered: &mut [Option<SwitchId>],
 ) -> Option<Verdict>
     requires fits { EntriesFit fabric.now tables.now }
     requires components { components.now ≡ fabric.now }
@@ -47,7 +47,7 @@ fn unreached_for(
     tables: &Tables,
     lid: Lid,
     components: &Components,
-    delivered: &mut [bool],
+    delivered: &mut [Option<SwitchId>],
 ) -> Option<Verdict>
     requires toward { IsToward fabric.now tables.now lid.0 }
     requires components { components.now ≡ fabric.now }
@@ -55,12 +55,12 @@ fn unreached_for(
     ensures { FindsFirst (Beneath (0 ∷ lid.0 ∷ []) (IsFaultAt fabric.now tables.now None)) result }
 {
     let home = fabric.place_of(lid)?.switch;
-    delivered.fill(false);
+    delivered.fill(None);
     for s in 0..fabric.switches() {
         let switch = SwitchId(s);
-        if components.are_connected(switch, home) && !delivered[s as usize] {
+        if components.are_connected(switch, home) && delivered[s as usize].is_none() {
             match end_of_route(fabric, tables, lid, delivered, switch) {
-                End::Delivered => mark_route(fabric, tables, lid, delivered, switch),
+                End::Delivered => {}
                 end => return Some(Verdict::Unreached { lid, switch, end }),
             }
         }
@@ -68,42 +68,34 @@ fn unreached_for(
     None
 }
 
-/// How the route from a switch ends, where the routes of marked switches are delivered.
-fn end_of_route(
-    fabric: &Fabric,
-    tables: &Tables,
+/// How the route from a switch ends, where the routes from all switches marked so far are delivered. Each switch
+/// that it comes to is marked with the one from which it starts; where it comes to such a switch again it is a
+/// loop, and where it isn't delivered the marks say nothing.
+fn end_of_route<'a>(
+    fabric: &'a Fabric,
+    tables: &'a Tables,
     lid: Lid,
-    delivered: &[bool],
+    delivered: &mut [Option<SwitchId>],
     from: SwitchId,
 ) -> End
     requires toward { IsToward fabric.now tables.now lid.0 }
-    requires marks { AreDelivered fabric.now tables.now lid.0 delivered.now }
+    requires marks { AreDelivered fabric.now tables.now lid.0 from.0 delivered.old }
     requires switch { from.0 < length fabric.now.switches }
-    ensures { result ≡ (path fabric.now tables.now from.0 lid.0).end }
+    ensures end { result ≡ (path fabric.now tables.now from.0 lid.0).end }
+    ensures marks { result ≡ delivery → AreDelivered fabric.now tables.now lid.0 (from.0 + 1) delivered.new }
 {
+    delivered[from.0 as usize] = Some(from);
     let mut route = follow(fabric, tables, from, lid);
     while let Some(channel) = route.next() {
-        if delivered[fabric.tip(channel).0 as usize] {
-            return End::Delivered;
+        let tip = fabric.tip(channel).0 as usize;
+        if let Some(first) = delivered[tip] {
+            return if first == from {
+                End::Loop
+            } else {
+                End::Delivered
+            };
         }
+        delivered[tip] = Some(from);
     }
     route.end().unwrap()
-}
-
-/// Marks the switches of a delivered route, up to one that is marked already.
-fn mark_route(fabric: &Fabric, tables: &Tables, lid: Lid, delivered: &mut [bool], from: SwitchId)
-    requires toward { IsToward fabric.now tables.now lid.0 }
-    requires marks { AreDelivered fabric.now tables.now lid.0 delivered.old }
-    requires switch { from.0 < length fabric.now.switches }
-    requires reaches { (path fabric.now tables.now from.0 lid.0).end ≡ delivery }
-    ensures { AreDelivered fabric.now tables.now lid.0 delivered.new }
-{
-    delivered[from.0 as usize] = true;
-    for channel in follow(fabric, tables, from, lid) {
-        let tip = fabric.tip(channel).0 as usize;
-        if delivered[tip] {
-            return;
-        }
-        delivered[tip] = true;
-    }
 }

@@ -19,7 +19,7 @@ const NO_ROUTE: u8 = 255;
 pub struct Tables {
     columns: Columns,
     switches: u32,
-    // switch by switch, a port for each column
+    // column by column, a port for each switch
     ports: Vec<u8>,
 }
 
@@ -40,7 +40,7 @@ impl Tables {
     {
         let columns = Columns::of(alloc, fabric)?;
         let switches = fabric.switches();
-        let ports = vec![in alloc; NO_ROUTE; switches as usize * columns.len()]?;
+        let ports = vec![in alloc; NO_ROUTE; columns.len() * switches as usize]?;
         Ok(Tables {
             columns,
             switches,
@@ -54,7 +54,7 @@ impl Tables {
         ensures { result ≡ entry self.now s.0 lid.0 }
     {
         match self.columns.place(lid) {
-            Some(place) => self.ports[s.0 as usize * self.columns.len() + place],
+            Some(place) => self.ports[place * self.switches as usize + s.0 as usize],
             None => NO_ROUTE,
         }
     }
@@ -66,8 +66,7 @@ impl Tables {
         ensures { self.new ≡ with_entry self.old s.0 lid.0 port }
     {
         if let Some(place) = self.columns.place(lid) {
-            let width = self.columns.len();
-            self.ports[s.0 as usize * width + place] = port;
+            self.ports[place * self.switches as usize + s.0 as usize] = port;
         }
     }
 

@@ -1,7 +1,7 @@
 -- The engines' maps are set switch by switch, and level by level.
 use Rattle.std.proofs.Common.{◌≡◌, ◌≢◌, ℕ, ◌+◌, ◌*◌, ◌<◌, ◌≤◌, length, replicate, refl, sym, ◌∙◌, ap, inl, inr, arith, Some, None, Option, length-set}
 use Rattle.std.specs.Prelude.{◌==◌, ◌&&◌, nat_lt, if◌then◌else◌, slice_index_or}
-use Rattle.std.proofs.lemmas.Bool.{cases_lt, cases_eq, eq-eqb, ne_eqb, and_from, and_left, and_right, cond-true, cond-false, lt-ltb, le-ltb}
+use Rattle.std.proofs.lemmas.Bool.{cond_both, cases_lt, cases_eq, eq-eqb, ne_eqb, and_from, and_left, and_right, cond-true, cond-false, lt-ltb, le-ltb}
 use Rattle.std.proofs.lemmas.List.{get_or-replicate, get_or_past, length-replicate}
 use Rattle.std.proofs.lemmas.List.Elements.{All-set, All-nil}
 use Rattle.fab_model.specs.Topology.{Topology, lids_of}
@@ -85,7 +85,8 @@ module _ (t : Topology) (fabric : IsFabric t) (count : ℕ) (few : (0 < count) �
     where
       none : (s : ℕ) (o : Option ℕ) → level_in_column first s o ≡ None
       none s None = refl
-      none s (Some i) = all_alike (length t.switches * length (lids_of t)) (s * length (lids_of t) + i) None
+      none s (Some i) = cond_both (nat_lt s (length t.switches)) (slice_index_or first.levels (cell (length t.switches) i s) None) None (λ level. level ≡ None)
+          (λ e. all_alike (length (lids_of t) * length t.switches) (cell (length t.switches) i s) None) (λ e. refl)
 
       no_number : (v : VirtualChannel) → number_of first v ≡ 0
       no_number v = elim (cases_lt v.lane 15) [

@@ -53,7 +53,7 @@ module _ (t : Topology) (l : LaneTables) (s lid : ℕ) (so_far : IsLeveling t l)
   in_column None = (so_far.fits, so_far.count, so_far.maps)
   in_column (Some i) = (
     record {
-      whole = level_set_kept l so_far.fits.whole (cell (length l.in_use) s i) (Some 0) (omega arith);
+      whole = level_set_kept l so_far.fits.whole (cell l.switches i s) (Some 0) (omega arith);
       switches = so_far.fits.switches;
       channels = so_far.fits.channels;
       in_use = so_far.fits.in_use;

@@ -46,7 +46,7 @@ level_kept : (t : Topology) (given : List Given) (l : LaneTables) (s lid : ℕ) 
 level_kept t given l s lid new None there low source few h tidy is = h
 level_kept t given l s lid new (Some i) there low source few h tidy is = record {
   fits = record {
-    whole = level_set_kept l h.fits.whole (cell (length l.in_use) s i) new few;
+    whole = level_set_kept l h.fits.whole (cell l.switches i s) new few;
     switches = h.fits.switches;
     channels = h.fits.channels;
     in_use = h.fits.in_use;

@@ -13,9 +13,9 @@ entries_fit t e s port None low h = h
 entries_fit t e s port (Some i) low h = record {
   whole = record {
     ascending = h.whole.ascending;
-    whole = length-set e.ports (cell (length e.in_use) s i) port ∙ h.whole.whole;
+    whole = length-set e.ports (cell e.switches i s) port ∙ h.whole.whole;
     low_lids = h.whole.low_lids;
-    low_ports = All-set (λ p. p < 256) e.ports (cell (length e.in_use) s i) port low h.whole.low_ports;
+    low_ports = All-set (λ p. p < 256) e.ports (cell e.switches i s) port low h.whole.low_ports;
   };
   switches = h.switches;
   in_use = h.in_use;
@@ -26,9 +26,9 @@ pub no_entries_fit : (t : Topology) → IsFabric t → EntriesFit t (no_entries 
 no_entries_fit t h = record {
   whole = record {
     ascending = (lids_are t h).ascending;
-    whole = length-replicate (length t.switches * length (lids_of t)) 255;
+    whole = length-replicate (length (lids_of t) * length t.switches) 255;
     low_lids = (lids_are t h).fit;
-    low_ports = All-replicate (λ p. p < 256) (length t.switches * length (lids_of t)) 255 (omega arith);
+    low_ports = All-replicate (λ p. p < 256) (length (lids_of t) * length t.switches) 255 (omega arith);
   };
   switches = refl;
   in_use = refl;

@@ -53,7 +53,8 @@ module _ (t : Topology) (n : ℕ) where
     where
       go : (o : Option ℕ) → level_in_column fresh s o ≡ None
       go None = refl
-      go (Some i) = none_there (length t.switches * length (lids_of t)) (cell (length (lids_of t)) s i)
+      go (Some i) = cond_both (nat_lt s (length t.switches)) (get_or fresh.levels (cell (length t.switches) i s) None) None (λ o. o ≡ None)
+          (λ e. none_there (length (lids_of t) * length t.switches) (cell (length t.switches) i s)) (λ e. refl)
 
   no_number : (channel lane : ℕ) → number fresh channel lane ≡ 0
   no_number channel lane =

@@ -42,5 +42,5 @@ module _ (lids : List ℕ) (j : ℕ) (low : j < length lids) where
   lid_place up = index_at lids j (get_or lids j 0) up (slice_get-get_or lids j 0 low)
 
   -- a write in the column of the LID
-  pub column_written : {X : Type 0} (s : ℕ) (new : X) → IsStrictlyIncreasing lids → WritesTo (cell (length lids) s j) (column_write (length lids) s new (index_of (get_or lids j 0) lids))
-  column_written s new up = subst (λ (place : Option ℕ). WritesTo (cell (length lids) s j) (column_write (length lids) s new place)) (sym (lid_place up)) (inl refl)
+  pub column_written : {X : Type 0} (switches s : ℕ) (new : X) → IsStrictlyIncreasing lids → WritesTo (cell switches j s) (column_write switches s new (index_of (get_or lids j 0) lids))
+  column_written switches s new up = subst (λ (place : Option ℕ). WritesTo (cell switches j s) (column_write switches s new place)) (sym (lid_place up)) (inl refl)

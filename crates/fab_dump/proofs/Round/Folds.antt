@@ -1,5 +1,5 @@
 -- What is said one after the other, as writes to the lists of tables and lanes.
-use Rattle.std.proofs.Common.{◌≡◌, ℕ, ◌+◌, List, [], ◌∷◌, length, refl, sym, ◌∙◌, ap, Option, Some, None}
+use Rattle.std.proofs.Common.{◌≡◌, ℕ, ◌+◌, List, [], ◌∷◌, refl, sym, ◌∙◌, ap, Option, Some, None}
 use Rattle.std.specs.Prelude.{fold, flat_map}
 use Rattle.std.proofs.lemmas.List.Sums.{fold-append}
 use Rattle.fab_tables.specs.declared.lanes.PairRow.{PairRow}
@@ -9,18 +9,18 @@ use Rattle.fab_dump.specs.Given.{Given, plan_with, lanes_with, tables_with, with
 use Rattle.fab_dump.specs.Given.Given.{TableBlock, Port, LevelBlock, Level, MapBlock, Map, PairMap, Certificate, Number}
 use Rattle.fab_dump.proofs.Round.Writes.{write_all, write_all-append}
 
--- a write in a row of cells, at the column of a LID
+-- a write of a switch's cell, in the column of a LID
 abbrev pub column_write : {X : Type 0} → ℕ → ℕ → X → Option ℕ → List (ℕ × X)
-column_write width s new None = []
-column_write width s new (Some i) = (cell width s i, new) ∷ []
+column_write switches s new None = []
+column_write switches s new (Some i) = (cell switches i s, new) ∷ []
 
-abbrev pub port_write : List ℕ → Given → List (ℕ × ℕ)
-port_write in_use (Port s lid port) = column_write (length in_use) s port (index_of lid in_use)
-port_write in_use _ = []
+abbrev pub port_write : ℕ → List ℕ → Given → List (ℕ × ℕ)
+port_write switches in_use (Port s lid port) = column_write switches s port (index_of lid in_use)
+port_write switches in_use _ = []
 
-abbrev pub level_write : List ℕ → Given → List (ℕ × Option ℕ)
-level_write in_use (Level s lid level) = column_write (length in_use) s level (index_of lid in_use)
-level_write in_use _ = []
+abbrev pub level_write : ℕ → List ℕ → Given → List (ℕ × Option ℕ)
+level_write switches in_use (Level s lid level) = column_write switches s level (index_of lid in_use)
+level_write switches in_use _ = []
 
 abbrev pub lane_writes : ℕ → ℕ → List ℕ → List (ℕ × ℕ)
 lane_writes s level [] = []
@@ -40,11 +40,11 @@ number_write _ = []
 
 -- ---- tables
 
-table_step : (e : Entries) (new : Given) → tables_with e new ≡ record e { ports = write_all e.ports (port_write e.in_use new) }
+table_step : (e : Entries) (new : Given) → tables_with e new ≡ record e { ports = write_all e.ports (port_write e.switches e.in_use new) }
 table_step e (TableBlock s) = refl
 table_step e (Port s lid port) = go (index_of lid e.in_use)
   where
-    go : (place : Option ℕ) → with_port_in_column e s port place ≡ record e { ports = write_all e.ports (column_write (length e.in_use) s port place) }
+    go : (place : Option ℕ) → with_port_in_column e s port place ≡ record e { ports = write_all e.ports (column_write e.switches s port place) }
     go None = refl
     go (Some i) = refl
 table_step e (LevelBlock s) = refl
@@ -55,12 +55,12 @@ table_step e (PairMap row) = refl
 table_step e Certificate = refl
 table_step e (Number channel lane number) = refl
 
-pub tables_fold : (e : Entries) (given : List Given) → fold tables_with e given ≡ record e { ports = write_all e.ports (flat_map (port_write e.in_use) given) }
+pub tables_fold : (e : Entries) (given : List Given) → fold tables_with e given ≡ record e { ports = write_all e.ports (flat_map (port_write e.switches e.in_use) given) }
 tables_fold e [] = refl
 tables_fold e (new ∷ given) =
     tables_fold (tables_with e new) given
-    ∙ ap (λ (x : Entries). record x { ports = write_all x.ports (flat_map (port_write x.in_use) given) }) (table_step e new)
-    ∙ ap (λ (ports : List ℕ). record e { ports = ports }) (sym (write_all-append e.ports (port_write e.in_use new) (flat_map (port_write e.in_use) given)))
+    ∙ ap (λ (x : Entries). record x { ports = write_all x.ports (flat_map (port_write x.switches x.in_use) given) }) (table_step e new)
+    ∙ ap (λ (ports : List ℕ). record e { ports = ports }) (sym (write_all-append e.ports (port_write e.switches e.in_use new) (flat_map (port_write e.switches e.in_use) given)))
 
 -- ---- lanes
 
@@ -69,11 +69,11 @@ abbrev pub relisted : LaneTables → List (Option ℕ) → List ℕ → List Pai
 relisted l levels general pairs numbers = record l { levels = levels; general = general; pairs = pairs; numbers = numbers }
 
 abbrev pub lanes_written : LaneTables → List Given → LaneTables
-lanes_written l given = relisted l (write_all l.levels (flat_map (level_write l.in_use) given)) (write_all l.general (flat_map map_write given))
+lanes_written l given = relisted l (write_all l.levels (flat_map (level_write l.switches l.in_use) given)) (write_all l.general (flat_map map_write given))
     (fold with_pair_row l.pairs (flat_map pair_of given)) (write_all l.numbers (flat_map number_write given))
 
 abbrev lanes_stepped : LaneTables → Given → LaneTables
-lanes_stepped l new = relisted l (write_all l.levels (level_write l.in_use new)) (write_all l.general (map_write new)) (fold with_pair_row l.pairs (pair_of new)) (write_all l.numbers (number_write new))
+lanes_stepped l new = relisted l (write_all l.levels (level_write l.switches l.in_use new)) (write_all l.general (map_write new)) (fold with_pair_row l.pairs (pair_of new)) (write_all l.numbers (number_write new))
 
 map_written : (l : LaneTables) (s level : ℕ) (lanes : List ℕ) → with_lanes l s level lanes ≡ relisted l l.levels (write_all l.general (lane_writes s level lanes)) l.pairs l.numbers
 map_written l s level [] = refl
@@ -85,7 +85,7 @@ lane_step l (Port s lid port) = refl
 lane_step l (LevelBlock s) = refl
 lane_step l (Level s lid level) = go (index_of lid l.in_use)
   where
-    go : (place : Option ℕ) → with_level_in_column l s level place ≡ relisted l (write_all l.levels (column_write (length l.in_use) s level place)) l.general l.pairs l.numbers
+    go : (place : Option ℕ) → with_level_in_column l s level place ≡ relisted l (write_all l.levels (column_write l.switches s level place)) l.general l.pairs l.numbers
     go None = refl
     go (Some i) = refl
 lane_step l (MapBlock s) = refl
@@ -104,7 +104,7 @@ lanes_fold l (new ∷ given) =
     lanes_fold (lanes_with l new) given
     ∙ ap (λ (x : LaneTables). lanes_written x given) (lane_step l new)
     ∙ same_lists_of l _ _ _ _ _ _ _ _
-    (sym (write_all-append l.levels (level_write l.in_use new) (flat_map (level_write l.in_use) given)))
+    (sym (write_all-append l.levels (level_write l.switches l.in_use new) (flat_map (level_write l.switches l.in_use) given)))
     (sym (write_all-append l.general (map_write new) (flat_map map_write given)))
     (sym (fold-append with_pair_row l.pairs (pair_of new) (flat_map pair_of given)))
     (sym (write_all-append l.numbers (number_write new) (flat_map number_write given)))

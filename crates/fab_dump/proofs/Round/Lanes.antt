@@ -19,7 +19,7 @@ use Rattle.fab_dump.specs.Given.Given.{LevelBlock, Level, MapBlock, Map, PairMap
 use Rattle.fab_dump.specs.Writing.{general_map, is_of_switch}
 use Rattle.fab_dump.proofs.Writing.Rows.{Row, some_row}
 use Rattle.fab_dump.proofs.Round.Said.{level_of, levels_block_said, map_block_said, number_of, numbers_said, all_levels, all_maps, all_numbers}
-use Rattle.fab_dump.proofs.Round.Writes.{Has, Has-map, Has-flat_map, Has-range, all_flat_map, all_parts, write_all, WritesTo, writes_of, IsRight, all_written}
+use Rattle.fab_dump.proofs.Round.Writes.{Has, Has-map, Has-flat_map, Has-range, all_flat_map, all_parts, all_numbered_parts, write_all, WritesTo, writes_of, IsRight, all_written}
 use Rattle.fab_dump.proofs.Round.Folds.{column_write, level_write, lane_writes, map_write, pair_of, number_write, lanes_fold}
 use Rattle.fab_dump.proofs.Round.Pairs.{of_earlier, of_none, of_all, of_numbered, pairs_placed, switches_are_rising}
 use Rattle.fab_dump.proofs.Round.Cells.{Place, place_of, row_there, lid_there, lid_place, column_written}
@@ -28,9 +28,9 @@ use Rattle.fab_dump.proofs.Round.Stages.{Passes}
 abbrev no_level : Option ℕ
 no_level = None
 
-pub level_passes : (lids : List ℕ) (n : ℕ) → 1 ≢ n → Passes (level_write lids) n
-level_passes lids n other (Level s lid level) e = absurd (other e)
-level_passes lids n other _ e = refl
+pub level_passes : (switches : ℕ) (lids : List ℕ) (n : ℕ) → 1 ≢ n → Passes (level_write switches lids) n
+level_passes switches lids n other (Level s lid level) e = absurd (other e)
+level_passes switches lids n other _ e = refl
 
 pub map_passes : (n : ℕ) → 2 ≢ n → Passes map_write n
 map_passes n other (Map s lanes) e = absurd (other e)
@@ -48,64 +48,68 @@ module _ (t : Topology) (l : LaneTables) (fit : LanesFit t l) where
   -- ---- levels
 
   abbrev level_writes : List (ℕ × Option ℕ)
-  level_writes = flat_map (level_write (lids_of t)) (all_levels t l)
+  level_writes = flat_map (level_write (length t.switches) (lids_of t)) (all_levels t l)
 
   abbrev LevelsAreRight : Given → Type 0
-  LevelsAreRight g = All (IsRight l.levels None) (level_write (lids_of t) g)
+  LevelsAreRight g = All (IsRight l.levels None) (level_write (length t.switches) (lids_of t) g)
 
-  level_right : (s lid : ℕ) → LevelsAreRight (level_of l s lid)
-  level_right s lid = subst (λ (lids : List ℕ). All (IsRight l.levels None) (level_write lids (level_of l s lid))) fit.in_use (go (index_of lid l.in_use))
+  level_right : (s lid : ℕ) → s < length t.switches → LevelsAreRight (level_of l s lid)
+  level_right s lid low = subst (λ (lids : List ℕ). All (IsRight l.levels None) (level_write (length t.switches) lids (level_of l s lid))) fit.in_use
+      (subst (λ (n : ℕ). All (IsRight l.levels None) (level_write n l.in_use (level_of l s lid))) fit.switches (go (index_of lid l.in_use)))
     where
-      go : (place : Option ℕ) → All (IsRight l.levels None) (column_write (length l.in_use) s (level_in_column l s place) place)
+      go : (place : Option ℕ) → All (IsRight l.levels None) (column_write l.switches s (level_in_column l s place) place)
       go None = All-nil (IsRight l.levels None)
-      go (Some i) = All-cons (IsRight l.levels None) (cell (length l.in_use) s i, level_in_column l s (Some i)) [] refl (All-nil (IsRight l.levels None))
+      go (Some i) = All-cons (IsRight l.levels None) (cell l.switches i s, level_in_column l s (Some i)) []
+          (cond-true (nat_lt s l.switches) (get_or l.levels (cell l.switches i s) None) None (lt-ltb s l.switches (omega (arith, low, fit.switches)))) (All-nil (IsRight l.levels None))
 
-  levels_right : (s : ℕ × SwitchRow) → All LevelsAreRight (levels_block_said t l s)
-  levels_right s = cond_both (is_source t s.0) (LevelBlock s.0 ∷ map (level_of l s.0) (lids_of t)) [] (All LevelsAreRight)
-      (λ e. All-cons LevelsAreRight (LevelBlock s.0) (map (level_of l s.0) (lids_of t)) (All-nil (IsRight l.levels None))
-      (All-map LevelsAreRight (level_of l s.0) (lids_of t) (λ k d low. level_right s.0 (get_or (lids_of t) k d))))
+  levels_right : (s : ℕ) (row : SwitchRow) → s < length t.switches → All LevelsAreRight (levels_block_said t l (s, row))
+  levels_right s row low = cond_both (is_source t s) (LevelBlock s ∷ map (level_of l s) (lids_of t)) [] (All LevelsAreRight)
+      (λ e. All-cons LevelsAreRight (LevelBlock s) (map (level_of l s) (lids_of t)) (All-nil (IsRight l.levels None))
+      (All-map LevelsAreRight (level_of l s) (lids_of t) (λ k d within. level_right s (get_or (lids_of t) k d) low)))
       (λ e. All-nil LevelsAreRight)
 
   all_levels_right : All (IsRight l.levels None) level_writes
-  all_levels_right = all_flat_map (IsRight l.levels None) (level_write (lids_of t)) (all_levels t l) (all_parts LevelsAreRight (levels_block_said t l) (enumerate_from 0 t.switches) levels_right)
+  all_levels_right = all_flat_map (IsRight l.levels None) (level_write (length t.switches) (lids_of t)) (all_levels t l) (all_numbered_parts LevelsAreRight (levels_block_said t l) t.switches levels_right)
 
-  levels_size : length l.levels ≡ length t.switches * length (lids_of t)
-  levels_size = fit.whole.all_levels ∙ ap (λ n. n * length l.in_use) fit.switches ∙ ap (λ (lids : List ℕ). length t.switches * length lids) fit.in_use
+  levels_size : length l.levels ≡ length (lids_of t) * length t.switches
+  levels_size = fit.whole.all_levels ∙ ap (λ (lids : List ℕ). length lids * l.switches) fit.in_use ∙ ap (λ n. length (lids_of t) * n) fit.switches
 
   ascending : IsStrictlyIncreasing (lids_of t)
   ascending = subst IsStrictlyIncreasing fit.in_use fit.whole.ascending
 
   -- where a level stands
-  level_at : (s j : ℕ) → j < length (lids_of t) → level l s (get_or (lids_of t) j 0) ≡ get_or l.levels (cell (length (lids_of t)) s j) None
-  level_at s j low =
+  level_at : (s j : ℕ) → s < length t.switches → j < length (lids_of t) → level l s (get_or (lids_of t) j 0) ≡ get_or l.levels (cell (length t.switches) j s) None
+  level_at s j of_fabric low =
       let place : index_of (get_or (lids_of t) j 0) l.in_use ≡ Some j = ap (λ (lids : List ℕ). index_of (get_or (lids_of t) j 0) lids) fit.in_use ∙ lid_place (lids_of t) j low ascending in
-      ap (λ (o : Option ℕ). level_in_column l s o) place ∙ ap (λ (lids : List ℕ). get_or l.levels (cell (length lids) s j) None) fit.in_use
+      ap (λ (o : Option ℕ). level_in_column l s o) place
+      ∙ cond-true (nat_lt s l.switches) (get_or l.levels (cell l.switches j s) None) None (lt-ltb s l.switches (omega (arith, of_fabric, fit.switches)))
+      ∙ ap (λ (n : ℕ). get_or l.levels (cell n j s) None) fit.switches
 
   module _ (tidy : (s lid : ℕ) → IsFalse (is_source t s) → level l s lid ≡ None) where
-    level_said : (i : ℕ) (at : Place (length (lids_of t)) (length t.switches) i) (source : Bool) → is_source t at.row ≡ source → i < length t.switches * length (lids_of t) →
-        (get_or (replicate (length t.switches * length (lids_of t)) no_level) i None ≡ get_or l.levels i None) ⊎ WritesTo i level_writes
+    level_said : (i : ℕ) (at : Place (length t.switches) (length (lids_of t)) i) (source : Bool) → is_source t at.column ≡ source → i < length (lids_of t) * length t.switches →
+        (get_or (replicate (length (lids_of t) * length t.switches) no_level) i None ≡ get_or l.levels i None) ⊎ WritesTo i level_writes
     level_said i at false none low = inl
-        (get_or-replicate (length t.switches * length (lids_of t)) i None None low
-        ∙ sym (sym (level_at at.row at.column at.column_low ∙ ap (λ (n : ℕ). get_or l.levels n None) at.at) ∙ tidy at.row (get_or (lids_of t) at.column 0) none))
+        (get_or-replicate (length (lids_of t) * length t.switches) i None None low
+        ∙ sym (sym (level_at at.column at.row at.column_low at.row_low ∙ ap (λ (n : ℕ). get_or l.levels n None) at.at) ∙ tidy at.column (get_or (lids_of t) at.row 0) none))
     level_said i at true is low =
-        let row : Row t.switches at.row = some_row t.switches at.row at.row_low in
-        let lid : ℕ = get_or (lids_of t) at.column 0 in
-        let block : Has (level_of l at.row lid) (levels_block_said t l (at.row, row.row))
-        = subst (λ (b : Bool). Has (level_of l at.row lid) (if b then LevelBlock at.row ∷ map (level_of l at.row) (lids_of t) else [])) (sym is)
-        (inr (Has-map (level_of l at.row) lid (lids_of t) (lid_there (lids_of t) at.column at.column_low))) in
-        let there : Has (level_of l at.row lid) (all_levels t l)
-        = Has-flat_map (levels_block_said t l) (at.row, row.row) (enumerate_from 0 t.switches) (level_of l at.row lid) (row_there t.switches at.row row.row row.found) block in
-        let written : WritesTo (cell (length (lids_of t)) at.row at.column) (level_write (lids_of t) (level_of l at.row lid))
-        = column_written (lids_of t) at.column at.column_low at.row (level l at.row lid) ascending in
-        inr (writes_of (level_write (lids_of t)) (all_levels t l) (level_of l at.row lid) i there (subst (λ (n : ℕ). WritesTo n (level_write (lids_of t) (level_of l at.row lid))) at.at written))
+        let row : Row t.switches at.column = some_row t.switches at.column at.column_low in
+        let lid : ℕ = get_or (lids_of t) at.row 0 in
+        let block : Has (level_of l at.column lid) (levels_block_said t l (at.column, row.row))
+        = subst (λ (b : Bool). Has (level_of l at.column lid) (if b then LevelBlock at.column ∷ map (level_of l at.column) (lids_of t) else [])) (sym is)
+        (inr (Has-map (level_of l at.column) lid (lids_of t) (lid_there (lids_of t) at.row at.row_low))) in
+        let there : Has (level_of l at.column lid) (all_levels t l)
+        = Has-flat_map (levels_block_said t l) (at.column, row.row) (enumerate_from 0 t.switches) (level_of l at.column lid) (row_there t.switches at.column row.row row.found) block in
+        let written : WritesTo (cell (length t.switches) at.row at.column) (level_write (length t.switches) (lids_of t) (level_of l at.column lid))
+        = column_written (lids_of t) at.row at.row_low (length t.switches) at.column (level l at.column lid) ascending in
+        inr (writes_of (level_write (length t.switches) (lids_of t)) (all_levels t l) (level_of l at.column lid) i there (subst (λ (n : ℕ). WritesTo n (level_write (length t.switches) (lids_of t) (level_of l at.column lid))) at.at written))
 
-    levels_back : write_all (replicate (length t.switches * length (lids_of t)) None) level_writes ≡ l.levels
-    levels_back = all_written l.levels None (replicate (length t.switches * length (lids_of t)) None) level_writes (length-replicate (length t.switches * length (lids_of t)) None ∙ sym levels_size) all_levels_right each
+    levels_back : write_all (replicate (length (lids_of t) * length t.switches) None) level_writes ≡ l.levels
+    levels_back = all_written l.levels None (replicate (length (lids_of t) * length t.switches) None) level_writes (length-replicate (length (lids_of t) * length t.switches) None ∙ sym levels_size) all_levels_right each
       where
-        each : (i : ℕ) → i < length l.levels → (get_or (replicate (length t.switches * length (lids_of t)) no_level) i None ≡ get_or l.levels i None) ⊎ WritesTo i level_writes
+        each : (i : ℕ) → i < length l.levels → (get_or (replicate (length (lids_of t) * length t.switches) no_level) i None ≡ get_or l.levels i None) ⊎ WritesTo i level_writes
         each i low =
-            let at : Place (length (lids_of t)) (length t.switches) i = place_of (length (lids_of t)) (length t.switches) i (omega (arith, low, levels_size)) in
-            level_said i at (is_source t at.row) refl (omega (arith, low, levels_size))
+            let at : Place (length t.switches) (length (lids_of t)) i = place_of (length t.switches) (length (lids_of t)) i (omega (arith, low, levels_size)) in
+            level_said i at (is_source t at.column) refl (omega (arith, low, levels_size))
 
   -- ---- general maps
 
@@ -256,7 +260,7 @@ module _ (t : Topology) (l : LaneTables) (fit : LanesFit t l) where
       record { count = l.count; switches = switches; channels = channels; in_use = in_use; levels = levels; general = general; pairs = pairs; numbers = numbers }
 
   -- the lanes, from such statements
-  pub lanes_back : ((s lid : ℕ) → IsFalse (is_source t s) → level l s lid ≡ None) → (given : List Given) → flat_map (level_write (lids_of t)) given ≡ flat_map (level_write (lids_of t)) (all_levels t l) →
+  pub lanes_back : ((s lid : ℕ) → IsFalse (is_source t s) → level l s lid ≡ None) → (given : List Given) → flat_map (level_write (length t.switches) (lids_of t)) given ≡ flat_map (level_write (length t.switches) (lids_of t)) (all_levels t l) →
       flat_map map_write given ≡ flat_map map_write (all_maps t l) → flat_map pair_of given ≡ flat_map pair_of (all_maps t l) → flat_map number_write given ≡ flat_map number_write (all_numbers t l) →
       fold lanes_with (no_lanes l.count (length t.switches) (length t.channels) (lids_of t)) given ≡ l
   lanes_back tidy given levels maps pairs numbers =

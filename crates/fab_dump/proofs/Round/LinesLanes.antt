@@ -1,8 +1,8 @@
 -- What the lines of a plan's lanes say.
 use Rattle.std.proofs.Common.{◌≡◌, ◌<◌, ◌≤◌, ◌*◌, ◌^◌, ℕ, true, false, List, [], ◌∷◌, ◌++◌, length, map, get_or, IfSome, Some, None, Option, codes, refl, sym, ◌∙◌, ap, subst, arith, inl, inr}
-use Rattle.std.specs.Prelude.{All, MatchOption, slice_get, is_some, option_map, option_and_then, unwrap_or, decimal, if◌then◌else◌}
+use Rattle.std.specs.Prelude.{All, MatchOption, slice_get, is_some, option_map, option_and_then, unwrap_or, decimal, if◌then◌else◌, nat_lt}
 use Rattle.std.specs.List.{range_with_len}
-use Rattle.std.proofs.lemmas.Bool.{ne_eqb, cases_lt}
+use Rattle.std.proofs.lemmas.Bool.{ne_eqb, cases_lt, cond_both}
 use Rattle.std.proofs.lemmas.List.{append_assoc, append-nil, get_or_past, length-append}
 use Rattle.std.proofs.lemmas.List.Elements.{All-append, All-get_or, All-cons, All-map}
 use Rattle.std.proofs.lemmas.List.FromFn.{length-map-range_with_len}
@@ -56,10 +56,12 @@ level_low l k lid are = go (index_of lid l.in_use)
   where
     go : (o : Option ℕ) → IfSome (level_in_column l k o) (λ n. n < 16)
     go None = tt
-    go (Some i) = elim (cases_lt (cell (length l.in_use) k i) (length l.levels)) [
-      | inl low ↦ All-get_or (λ (level : Option ℕ). IfSome level (λ n. n < 16)) l.levels (cell (length l.in_use) k i) None low are.low_levels
-      | inr past ↦ subst (λ (o : Option ℕ). IfSome o (λ n. n < 16)) (sym (get_or_past l.levels (cell (length l.in_use) k i) None past)) tt
-    ]
+    go (Some i) = cond_both (nat_lt k l.switches) (get_or l.levels (cell l.switches i k) None) None (λ (o : Option ℕ). IfSome o (λ n. n < 16))
+        (λ b. elim (cases_lt (cell l.switches i k) (length l.levels)) [
+          | inl low ↦ All-get_or (λ (level : Option ℕ). IfSome level (λ n. n < 16)) l.levels (cell l.switches i k) None low are.low_levels
+          | inr past ↦ subst (λ (o : Option ℕ). IfSome o (λ n. n < 16)) (sym (get_or_past l.levels (cell l.switches i k) None past)) tt
+        ])
+        (λ b. tt)
 
 level_back : (o : Option ℕ) → IfSome o (λ n. n < 16) → level_field (level2 o) ≡ Some o
 level_back None h = refl

@@ -1,9 +1,9 @@
 -- What the lines of a table block say.
 use Rattle.std.proofs.Common.{◌≡◌, ◌<◌, ◌-◌, ◌*◌, ◌^◌, ℕ, false, List, [], ◌∷◌, ◌++◌, length, map, get_or, Some, None, Option, codes, refl, sym, ◌∙◌, ap, arith, inl, inr}
-use Rattle.std.specs.Prelude.{slice_get, slice_index, decimal, if◌then◌else◌, ◌==◌}
+use Rattle.std.specs.Prelude.{slice_get, slice_index, decimal, if◌then◌else◌, nat_lt, ◌==◌}
 use Rattle.std.specs.List.{concat}
 use Rattle.std.specs.Str.{bytes_eq}
-use Rattle.std.proofs.lemmas.Bool.{ne_eqb, eq-eqb, cases_lt}
+use Rattle.std.proofs.lemmas.Bool.{ne_eqb, eq-eqb, cases_lt, cond_both}
 use Rattle.std.proofs.lemmas.List.{append_assoc, get_or_past}
 use Rattle.std.proofs.lemmas.List.Elements.{All-append, All-get_or, All-cons}
 use Rattle.std.proofs.lemmas.Option.{slice_get_within, get_or_from_slice_get}
@@ -137,10 +137,12 @@ entry_low e k lid are = go (index_of lid e.in_use)
   where
     go : (o : Option ℕ) → port_in_column e k o < 256
     go None = omega arith
-    go (Some i) = elim (cases_lt (cell (length e.in_use) k i) (length e.ports)) [
-      | inl low ↦ All-get_or (λ port. port < 256) e.ports (cell (length e.in_use) k i) 255 low are.low_ports
-      | inr past ↦ omega (arith, get_or_past e.ports (cell (length e.in_use) k i) 255 past)
-    ]
+    go (Some i) = cond_both (nat_lt k e.switches) (get_or e.ports (cell e.switches i k) 255) 255 (λ port. port < 256)
+        (λ b. elim (cases_lt (cell e.switches i k) (length e.ports)) [
+          | inl low ↦ All-get_or (λ port. port < 256) e.ports (cell e.switches i k) 255 low are.low_ports
+          | inr past ↦ omega (arith, get_or_past e.ports (cell e.switches i k) 255 past)
+        ])
+        (λ b. omega arith)
 
 port_back : (e : Entries) (k lid : ℕ) → AreEntries e → dec 3 255 (port3 (entry e k lid)) ≡ Some (entry e k lid)
 port_back e k lid are =

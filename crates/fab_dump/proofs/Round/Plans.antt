@@ -28,7 +28,7 @@ back : (t : Topology) (e : Entries) (o : Option LaneTables) → EntriesFit t e �
     plan_given t (count_of o) (said t (record { tables = e; lanes = o })) ≡ record { tables = e; lanes = o }
 back t e None fit lanes tidy =
     plan_fold_none (no_entries (length t.switches) (lids_of t)) (all_tables t e ++ [])
-    ∙ ap (λ (x : Entries). made x None) (entries_back t e fit (all_tables t e ++ []) (ap (λ given. flat_map (port_write (lids_of t)) given) (append-nil (all_tables t e))))
+    ∙ ap (λ (x : Entries). made x None) (entries_back t e fit (all_tables t e ++ []) (ap (λ given. flat_map (port_write (length t.switches) (lids_of t)) given) (append-nil (all_tables t e))))
 back t e (Some l) fit lanes tidy =
     plan_fold_some (no_entries (length t.switches) (lids_of t)) (no_lanes l.count (length t.switches) (length t.channels) (lids_of t)) (whole t e l)
     ∙ ap (λ (x : Entries). made x (Some (fold lanes_with (no_lanes l.count (length t.switches) (length t.channels) (lids_of t)) (whole t e l)))) tables
@@ -36,11 +36,11 @@ back t e (Some l) fit lanes tidy =
   where
     tables : fold tables_with (no_entries (length t.switches) (lids_of t)) (whole t e l) ≡ e
     tables = entries_back t e fit (whole t e l)
-        (only_tables (port_write (lids_of t)) t e l refl (port_passes (lids_of t) 1 (λ x. omega (arith, x))) (port_passes (lids_of t) 2 (λ x. omega (arith, x))) (port_passes (lids_of t) 3 (λ x. omega (arith, x))))
+        (only_tables (port_write (length t.switches) (lids_of t)) t e l refl (port_passes (length t.switches) (lids_of t) 1 (λ x. omega (arith, x))) (port_passes (length t.switches) (lids_of t) 2 (λ x. omega (arith, x))) (port_passes (length t.switches) (lids_of t) 3 (λ x. omega (arith, x))))
 
     all_lanes : fold lanes_with (no_lanes l.count (length t.switches) (length t.channels) (lids_of t)) (whole t e l) ≡ l
     all_lanes = lanes_back t l lanes tidy (whole t e l)
-        (only_levels (level_write (lids_of t)) t e l refl (level_passes (lids_of t) 0 (λ x. omega (arith, x))) (level_passes (lids_of t) 2 (λ x. omega (arith, x))) (level_passes (lids_of t) 3 (λ x. omega (arith, x))))
+        (only_levels (level_write (length t.switches) (lids_of t)) t e l refl (level_passes (length t.switches) (lids_of t) 0 (λ x. omega (arith, x))) (level_passes (length t.switches) (lids_of t) 2 (λ x. omega (arith, x))) (level_passes (length t.switches) (lids_of t) 3 (λ x. omega (arith, x))))
         (only_maps map_write t e l refl (map_passes 0 (λ x. omega (arith, x))) (map_passes 1 (λ x. omega (arith, x))) (map_passes 3 (λ x. omega (arith, x))))
         (only_maps pair_of t e l refl (pair_passes 0 (λ x. omega (arith, x))) (pair_passes 1 (λ x. omega (arith, x))) (pair_passes 3 (λ x. omega (arith, x))))
         (only_numbers number_write t e l refl (number_passes 0 (λ x. omega (arith, x))) (number_passes 1 (λ x. omega (arith, x))) (number_passes 2 (λ x. omega (arith, x))))

@@ -1,5 +1,5 @@
 -- Writes to the places of a list, one after the other.
-use Rattle.std.proofs.Common.{◌≡◌, ℕ, zero, suc, ◌+◌, ◌<◌, List, [], ◌∷◌, ◌++◌, length, map, get_or, set, refl, sym, ◌∙◌, ap, subst, arith, ◌⊎◌, inl, inr}
+use Rattle.std.proofs.Common.{◌≡◌, ℕ, zero, suc, ◌+◌, ◌<◌, ◌≤◌, List, [], ◌∷◌, ◌++◌, length, map, get_or, set, refl, sym, ◌∙◌, ap, subst, arith, ◌⊎◌, inl, inr}
 use Rattle.std.specs.Prelude.{All, Some, slice_get, flat_map}
 use Rattle.std.specs.List.{enumerate_from, range_with_len}
 use Rattle.std.proofs.lemmas.Bool.{cases_eq}
@@ -70,6 +70,15 @@ all_flat_map P f (x ∷ xs) h =
 
 pub all_parts : {A B : Type 0} (P : B → Type 0) (f : A → List B) (xs : List A) → ((x : A) → All P (f x)) → All P (flat_map f xs)
 all_parts P f xs each = all_flat_map P f xs (λ k d low. each (get_or xs k d))
+
+-- of rows that are numbered
+numbered_from : {A B : Type 0} (P : B → Type 0) (f : ℕ × A → List B) (from past : ℕ) (rows : List A) → from + length rows ≤ past → ((n : ℕ) (row : A) → n < past → All P (f (n, row))) → All P (flat_map f (enumerate_from from rows))
+numbered_from P f from past [] within each = All-nil P
+numbered_from P f from past (row ∷ rows) within each =
+    All-append P (f (from, row)) (flat_map f (enumerate_from (from + 1) rows)) (each from row (omega (arith, within))) (numbered_from P f (from + 1) past rows (omega (arith, within)) each)
+
+pub all_numbered_parts : {A B : Type 0} (P : B → Type 0) (f : ℕ × A → List B) (rows : List A) → ((n : ℕ) (row : A) → n < length rows → All P (f (n, row))) → All P (flat_map f (enumerate_from 0 rows))
+all_numbered_parts P f rows each = numbered_from P f 0 (length rows) rows (omega arith) each
 
 -- parts of which nothing is taken
 pub nothing_of : {A B : Type 0} (f : A → List B) (xs : List A) → All (λ x. f x ≡ []) xs → flat_map f xs ≡ []

@@ -1,8 +1,8 @@
 -- Levels and lanes are below 16.
 use Rattle.std.proofs.Common.{◌≡◌, ◌<◌, ℕ, List, Option, Some, None, length, get_or, subst, sym, inl, inr, arith}
-use Rattle.std.specs.Prelude.{All, IfSome}
+use Rattle.std.specs.Prelude.{All, IfSome, nat_lt}
 use Rattle.std.specs.List.{range_with_len}
-use Rattle.std.proofs.lemmas.Bool.{cases_lt}
+use Rattle.std.proofs.lemmas.Bool.{cases_lt, cond_both}
 use Rattle.std.proofs.lemmas.List.{get_or_past}
 use Rattle.std.proofs.lemmas.List.Elements.{All-get_or, All-map}
 use Rattle.fab_tables.specs.Entries.{index_of, cell}
@@ -22,10 +22,12 @@ general_lanes l s lanes are e =
 
 in_column : (l : LaneTables) (s : ℕ) (place : Option ℕ) → AreLaneTables l → IfSome (level_in_column l s place) (λ n. n < 16)
 in_column l s None are = tt
-in_column l s (Some i) are = elim (cases_lt (cell (length l.in_use) s i) (length l.levels)) [
-  | inl h ↦ All-get_or (λ (level : Option ℕ). IfSome level (λ n. n < 16)) l.levels (cell (length l.in_use) s i) None h are.low_levels
-  | inr h ↦ subst (λ (level : Option ℕ). IfSome level (λ n. n < 16)) (sym (get_or_past l.levels (cell (length l.in_use) s i) None h)) tt
-]
+in_column l s (Some i) are = cond_both (nat_lt s l.switches) (get_or l.levels (cell l.switches i s) None) None (λ (level : Option ℕ). IfSome level (λ n. n < 16))
+    (λ b. elim (cases_lt (cell l.switches i s) (length l.levels)) [
+      | inl h ↦ All-get_or (λ (level : Option ℕ). IfSome level (λ n. n < 16)) l.levels (cell l.switches i s) None h are.low_levels
+      | inr h ↦ subst (λ (level : Option ℕ). IfSome level (λ n. n < 16)) (sym (get_or_past l.levels (cell l.switches i s) None h)) tt
+    ])
+    (λ b. tt)
 
 pub level_below : (l : LaneTables) (s lid n : ℕ) → AreLaneTables l → Some n ≡ level l s lid → n < 16
 level_below l s lid n are e = subst (λ (level : Option ℕ). IfSome level (λ n. n < 16)) (sym e) (in_column l s (index_of lid l.in_use) are)

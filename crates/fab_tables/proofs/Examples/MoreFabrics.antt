@@ -15,7 +15,7 @@ pair = record {
 
 -- Min Hop on PAIR
 abbrev pub pair_balanced : Entries
-pair_balanced = record { switches = 2; in_use = 1 ∷ 2 ∷ 3 ∷ 4 ∷ []; ports = 0 ∷ 1 ∷ 1 ∷ 2 ∷ 1 ∷ 0 ∷ 3 ∷ 4 ∷ [] }
+pair_balanced = record { switches = 2; in_use = 1 ∷ 2 ∷ 3 ∷ 4 ∷ []; ports = 0 ∷ 1 ∷ 1 ∷ 0 ∷ 1 ∷ 3 ∷ 2 ∷ 4 ∷ [] }
 
 abbrev pub ring5 : Topology
 ring5 = record {
@@ -31,7 +31,7 @@ abbrev pub ring5_entries : Entries
 ring5_entries = record {
   switches = 5;
   in_use = 1 ∷ 2 ∷ 3 ∷ 4 ∷ 5 ∷ 6 ∷ 7 ∷ 8 ∷ 9 ∷ 10 ∷ [];
-  ports = 0 ∷ 1 ∷ 1 ∷ 2 ∷ 2 ∷ 3 ∷ 1 ∷ 1 ∷ 2 ∷ 2 ∷ 2 ∷ 0 ∷ 1 ∷ 1 ∷ 2 ∷ 2 ∷ 3 ∷ 1 ∷ 1 ∷ 2 ∷ 2 ∷ 2 ∷ 0 ∷ 1 ∷ 1 ∷ 2 ∷ 2 ∷ 3 ∷ 1 ∷ 1 ∷ 1 ∷ 2 ∷ 2 ∷ 0 ∷ 1 ∷ 1 ∷ 2 ∷ 2 ∷ 3 ∷ 1 ∷ 1 ∷ 1 ∷ 2 ∷ 2 ∷ 0 ∷ 1 ∷ 1 ∷ 2 ∷ 2 ∷ 3 ∷ [];
+  ports = 0 ∷ 2 ∷ 2 ∷ 1 ∷ 1 ∷ 1 ∷ 0 ∷ 2 ∷ 2 ∷ 1 ∷ 1 ∷ 1 ∷ 0 ∷ 2 ∷ 2 ∷ 2 ∷ 1 ∷ 1 ∷ 0 ∷ 2 ∷ 2 ∷ 2 ∷ 1 ∷ 1 ∷ 0 ∷ 3 ∷ 2 ∷ 2 ∷ 1 ∷ 1 ∷ 1 ∷ 3 ∷ 2 ∷ 2 ∷ 1 ∷ 1 ∷ 1 ∷ 3 ∷ 2 ∷ 2 ∷ 2 ∷ 1 ∷ 1 ∷ 3 ∷ 2 ∷ 2 ∷ 2 ∷ 1 ∷ 1 ∷ 3 ∷ [];
 }
 
 abbrev pub real : Topology
@@ -47,5 +47,5 @@ abbrev pub real_entries : Entries
 real_entries = record {
   switches = 3;
   in_use = 1 ∷ 2 ∷ 3 ∷ 4 ∷ 5 ∷ 6 ∷ [];
-  ports = 0 ∷ 21 ∷ 21 ∷ 1 ∷ 21 ∷ 21 ∷ 21 ∷ 0 ∷ 22 ∷ 21 ∷ 1 ∷ 2 ∷ 1 ∷ 2 ∷ 0 ∷ 1 ∷ 3 ∷ 2 ∷ [];
+  ports = 0 ∷ 21 ∷ 1 ∷ 21 ∷ 0 ∷ 2 ∷ 21 ∷ 22 ∷ 0 ∷ 1 ∷ 21 ∷ 1 ∷ 21 ∷ 1 ∷ 3 ∷ 21 ∷ 2 ∷ 2 ∷ [];
 }

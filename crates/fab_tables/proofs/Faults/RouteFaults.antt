@@ -81,6 +81,12 @@ module _ (t : Topology) (e : Entries) where
       u.4 (ap (λ x. (route t e u.1 x).end) (sym same_lid) ∙ ap (λ x. (route t e x lid).end) (sym same_switch) ∙ d)
 
   -- from switch to switch
+  pub one_switch_clear : (lid s : ℕ) → ((m : ℕ) → m < s → FindsFirst (Beneath (0 ∷ lid ∷ m ∷ []) P) None) → FindsFirst (Beneath (0 ∷ lid ∷ s ∷ []) P) None → (m : ℕ) → m < s + 1 → FindsFirst (Beneath (0 ∷ lid ∷ m ∷ []) P) None
+  one_switch_clear lid s before here m less = elim (cases_lt m s) [
+    | inl low ↦ before m low
+    | inr past ↦ subst (λ k. FindsFirst (Beneath (0 ∷ lid ∷ k ∷ []) P) None) (omega (arith, less, past)) here
+  ]
+
   pub none_for_lid : (lid : ℕ) → IsToward t e lid → ((s : ℕ) → s < length t.switches → FindsFirst (Beneath (0 ∷ lid ∷ s ∷ []) P) None) → FindsFirst (Beneath (0 ∷ lid ∷ []) P) None
   none_for_lid lid toward none = none_beneath (Beneath (0 ∷ lid ∷ []) P) (none_at_lid lid) below
     where

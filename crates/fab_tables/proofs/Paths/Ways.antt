@@ -12,7 +12,7 @@ use Rattle.fab_tables.specs.declared.end.End.TheVariants.{Delivered}
 use Rattle.fab_tables.specs.Entries.{Entries}
 use Rattle.fab_tables.specs.Route.{tip, tip_of_row, route}
 use Rattle.fab_tables.specs.Ahead.{Ahead, StepsTo}
-use Rattle.fab_tables.specs.Reaching.{IsToward, AreDelivered}
+use Rattle.fab_tables.specs.Reaching.{IsToward}
 use Rattle.fab_tables.proofs.Joined.Tips.{tip_below}
 use Rattle.fab_tables.proofs.Paths.Routes.{channel_there, delivered_before, delivered_behind}
 
@@ -59,13 +59,3 @@ module _ (t : Topology) (e : Entries) (lid : ℕ) (toward : IsToward t e lid) (s
 
     pub delivered_on : (route t e s lid).end ≡ Delivered → (route t e to.0 lid).end ≡ Delivered
     delivered_on d = ap (λ x. (route t e x lid).end) (sym to_tip) ∙ delivered_behind t e lid toward.fabric.rows s way.passed c.0 stepped.0 d
-
--- one mark more
-pub marks_more : (t : Topology) (e : Entries) (lid : ℕ) (marks : List Bool) (s : ℕ) → AreDelivered t e lid marks → (route t e s lid).end ≡ Delivered → s < length t.switches → AreDelivered t e lid (slice_set marks s true)
-marks_more t e lid marks s are d low = record { room = length-set marks s true ∙ are.room; delivered = delivered }
-  where
-    delivered : (x : ℕ) → slice_index_or (slice_set marks s true) x false ≡ true → (route t e x lid).end ≡ Delivered
-    delivered x marked = elim (cases_eq x s) [
-      | inl same ↦ ap (λ y. (route t e y lid).end) same ∙ d
-      | inr other ↦ are.delivered x (sym (get_or-set_other marks s x true false other) ∙ marked)
-    ]

@@ -1,7 +1,8 @@
 -- A set changes one value and no other: rows of cells, one after the other in a list.
 use Rattle.std.proofs.Common.{◌≡◌, ◌≢◌, ℕ, zero, suc, ◌+◌, ◌*◌, ◌<◌, ◌≤◌, Bool, true, false, List, [], ◌∷◌, length, refl, sym, ◌∙◌, ap, subst, arith, Some, None, Option, ◌⊎◌, inl, inr, get_or-set_same, get_or-set_other}
 use Rattle.std.proofs.Math.Nat.{mul-le-mul_left}
-use Rattle.std.proofs.lemmas.Bool.{cases_order, cases_lt, ne_eqb, and_from, and_left, and_right, lt-ltb, le-ltb}
+use Rattle.std.proofs.Math.Bool.{and_comm}
+use Rattle.std.proofs.lemmas.Bool.{cases_order, ne_eqb, and_from, and_left, and_right, ltb-true, ltb-false}
 use Rattle.std.proofs.lemmas.Bool.Decides.{eqb_tells}
 use Rattle.std.specs.Prelude.{slice_get, slice_index_or, slice_set, ◌==◌, ◌&&◌, if◌then◌else◌, option_map, nat_lt}
 use Rattle.fab_tables.specs.Entries.{Entries, AreEntries, index_of, cell, port_in_column, with_port_in_column, with_entry}
@@ -25,6 +26,12 @@ chosen false x y e = cc
 pub passed : {A : Type 0} (b : Bool) (x y : A) → b ≡ false → y ≡ (if b then x else y)
 passed true x y e = cc
 passed false x y e = refl
+
+-- where a value is read only inside a bound, and what is set is inside
+pub changed_inside : {A : Type 0} (inside here : Bool) (changed old new d : A) → (inside ≡ true → changed ≡ (if here then new else old)) → (inside ≡ false → here ≡ false) →
+    (if inside then changed else d) ≡ (if here then new else (if inside then old else d))
+changed_inside true here changed old new d same other = same refl
+changed_inside false here changed old new d same other = passed here new d (other refl)
 
 -- one value of a list of rows is set
 pub set_cell : {A : Type 0} (xs : List A) (w n s i o j : ℕ) (new d : A) → length xs ≡ n * w → s < n → i < w → j < w →
@@ -123,9 +130,13 @@ module _ (e : Entries) (are : AreEntries e) (s lid port o n : ℕ) (low : s < e.
       port_in_column (with_port_in_column e s port x) o y ≡ (if (o == s) && (n == lid) then port else port_in_column e o y)
   entry_changes None y a b c = absurd (c refl)
   entry_changes (Some i) None a b c = passed ((o == s) && (n == lid)) port 255 (and_right (o == s) (n == lid) (other_test lid n e.in_use i a b))
-  entry_changes (Some i) (Some j) a b c =
-      set_cell e.ports (length e.in_use) e.switches s i o j port 255 are.whole low (index_found lid e.in_use i a).0 (index_found n e.in_use j b).0
-      ∙ ap (λ t. if (o == s) && t then port else slice_index_or e.ports (cell (length e.in_use) o j) 255) (same_test lid n e.in_use i j a b)
+  entry_changes (Some i) (Some j) a b c = changed_inside (nat_lt o e.switches) ((o == s) && (n == lid)) _ (slice_index_or e.ports (cell e.switches j o) 255) port 255 (λ t. inside (ltb-true o e.switches t))
+      (λ f. and_left (o == s) (n == lid) (ne_eqb o s (λ same. omega (arith, same, low, ltb-false o e.switches f))))
+    where
+      inside : o < e.switches → slice_index_or (slice_set e.ports (cell e.switches i s) port) (cell e.switches j o) 255 ≡ (if (o == s) && (n == lid) then port else slice_index_or e.ports (cell e.switches j o) 255)
+      inside h =
+          set_cell e.ports e.switches (length e.in_use) i s j o port 255 are.whole (index_found lid e.in_use i a).0 low h
+          ∙ ap (λ t. if t then port else slice_index_or e.ports (cell e.switches j o) 255) (and_comm (j == i) (o == s) ∙ ap (λ t. (o == s) && t) (same_test lid n e.in_use i j a b))
 
   -- the LIDs stay
   lids_stay : (x : Option ℕ) → (with_port_in_column e s port x).in_use ≡ e.in_use
@@ -142,9 +153,13 @@ module _ (l : LaneTables) (are : AreLaneTables l) (s lid o n : ℕ) (new : Optio
       level_in_column (with_level_in_column l s new x) o y ≡ (if (o == s) && (n == lid) then new else level_in_column l o y)
   level_changes None y a b c = absurd (c refl)
   level_changes (Some i) None a b c = passed ((o == s) && (n == lid)) new None (and_right (o == s) (n == lid) (other_test lid n l.in_use i a b))
-  level_changes (Some i) (Some j) a b c =
-      set_cell l.levels (length l.in_use) l.switches s i o j new None are.all_levels low (index_found lid l.in_use i a).0 (index_found n l.in_use j b).0
-      ∙ ap (λ t. if (o == s) && t then new else slice_index_or l.levels (cell (length l.in_use) o j) None) (same_test lid n l.in_use i j a b)
+  level_changes (Some i) (Some j) a b c = changed_inside (nat_lt o l.switches) ((o == s) && (n == lid)) _ (slice_index_or l.levels (cell l.switches j o) None) new None (λ t. inside (ltb-true o l.switches t))
+      (λ f. and_left (o == s) (n == lid) (ne_eqb o s (λ same. omega (arith, same, low, ltb-false o l.switches f))))
+    where
+      inside : o < l.switches → slice_index_or (slice_set l.levels (cell l.switches i s) new) (cell l.switches j o) None ≡ (if (o == s) && (n == lid) then new else slice_index_or l.levels (cell l.switches j o) None)
+      inside h =
+          set_cell l.levels l.switches (length l.in_use) i s j o new None are.all_levels (index_found lid l.in_use i a).0 low h
+          ∙ ap (λ t. if t then new else slice_index_or l.levels (cell l.switches j o) None) (and_comm (j == i) (o == s) ∙ ap (λ t. (o == s) && t) (same_test lid n l.in_use i j a b))
 
   level_lids_stay : (x : Option ℕ) → (with_level_in_column l s new x).in_use ≡ l.in_use
   level_lids_stay None = refl
@@ -157,21 +172,7 @@ one_level_changes l s lid o n new are low there =
 
 -- lanes of one channel and of others
 pub one_number_changes : OneNumberChanges
-one_number_changes l c on_lane new o other are low lane_low = go (cases_lt other 15)
-  where
-    inside : other < 15 → slice_index_or (slice_set l.numbers (cell 15 c on_lane) new) (cell 15 o other) 0 ≡ (if (o == c) && (other == on_lane) then new else slice_index_or l.numbers (cell 15 o other) 0)
-    inside h = set_cell l.numbers 15 l.channels c on_lane o other new 0 are.all_numbers low lane_low h
-
-    guarded : (b : Bool) (x y : ℕ) → b ≡ true → x ≡ y → (if b then x else 0) ≡ y
-    guarded true x y t e = e
-    guarded false x y t e = cc
-
-    none : (b : Bool) (x : ℕ) → b ≡ false → (if b then x else 0) ≡ 0
-    none true x t = cc
-    none false x t = refl
-
-    go : (other < 15) ⊎ (15 ≤ other) → number (with_number l c on_lane new) o other ≡ (if (o == c) && (other == on_lane) then new else number l o other)
-    go (inl h) = guarded (nat_lt other 15) _ _ (lt-ltb other 15 h) (inside h)
-        ∙ ap (λ x. if (o == c) && (other == on_lane) then new else x) (sym (guarded (nat_lt other 15) _ _ (lt-ltb other 15 h) refl))
-    go (inr h) = none (nat_lt other 15) _ (le-ltb other 15 h) ∙ passed ((o == c) && (other == on_lane)) new 0 (and_right (o == c) (other == on_lane) (ne_eqb other on_lane (λ e. omega (arith, e))))
-        ∙ ap (λ x. if (o == c) && (other == on_lane) then new else x) (sym (none (nat_lt other 15) _ (le-ltb other 15 h)))
+one_number_changes l c on_lane new o other are low lane_low =
+    changed_inside (nat_lt other 15) ((o == c) && (other == on_lane)) _ (slice_index_or l.numbers (cell 15 o other) 0) new 0
+    (λ t. set_cell l.numbers 15 l.channels c on_lane o other new 0 are.all_numbers low lane_low (ltb-true other 15 t))
+    (λ f. and_right (o == c) (other == on_lane) (ne_eqb other on_lane (λ same. omega (arith, same, lane_low, ltb-false other 15 f))))

@@ -12,10 +12,10 @@ use Rattle.fab_tables.specs.LevelBytes.{level_of_byte}
 use Rattle.fab_tables.proofs.Rows.LevelBytes.{no_levels}
 
 pub made : (count s s' ch ch' : ℕ) (lids lids' levels general numbers : List ℕ) (pairs : List PairRow) → s ≡ s' → ch ≡ ch' → lids ≡ lids' →
-    levels ≡ replicate (s' * length lids') 255 → general ≡ replicate (s' * 16) 15 → pairs ≡ [] → numbers ≡ replicate (ch' * 15) 0 →
+    levels ≡ replicate (length lids' * s') 255 → general ≡ replicate (s' * 16) 15 → pairs ≡ [] → numbers ≡ replicate (ch' * 15) 0 →
     record { count = count; switches = s; channels = ch; in_use = lids; levels = map level_of_byte levels; general = general; pairs = pairs; numbers = numbers } ≡ no_lanes count s' ch' lids'
 made count s s' ch ch' lids lids' levels general numbers pairs a b c d e f g =
-    let none : map level_of_byte levels ≡ replicate (s' * length lids') None = ap (λ xs. map level_of_byte xs) d ∙ no_levels (s' * length lids') in
+    let none : map level_of_byte levels ≡ replicate (length lids' * s') None = ap (λ xs. map level_of_byte xs) d ∙ no_levels (length lids' * s') in
     cc
 
 pub new_kept : (count s ch : ℕ) (lids : List ℕ) → (0 < count) × (count ≤ 15) → AreLids lids → AreLaneTables (no_lanes count s ch lids)
@@ -23,8 +23,8 @@ new_kept count s ch lids few are =
     record {
       count = few;
       ascending = are.ascending;
-      all_levels = length-replicate (s * length lids) None;
-      low_levels = All-replicate (λ (level : Option ℕ). IfSome level (λ n. n < 16)) (s * length lids) None tt;
+      all_levels = length-replicate (length lids * s) None;
+      low_levels = All-replicate (λ (level : Option ℕ). IfSome level (λ n. n < 16)) (length lids * s) None tt;
       all_general = length-replicate (s * 16) 15;
       lanes = All-replicate (λ lane. lane < 16) (s * 16) 15 (omega arith);
       in_order = λ k h. absurd (omega arith);
@@ -68,6 +68,6 @@ module _ (l : LaneTables) (are : AreLaneTables l) where
         low_numbers = are.low_numbers;
       }
 
-pub level_set : (l : LaneTables) (s lid place i : ℕ) (new : Option ℕ) → Some place ≡ index_of lid l.in_use → i ≡ cell (length l.in_use) s place → record l { levels = set l.levels i new } ≡ with_level l s lid new
+pub level_set : (l : LaneTables) (s lid place i : ℕ) (new : Option ℕ) → Some place ≡ index_of lid l.in_use → i ≡ cell l.switches place s → record l { levels = set l.levels i new } ≡ with_level l s lid new
 level_set l s lid place i new there at =
     ap (λ k. record l { levels = set l.levels k new }) at ∙ ap (λ o. with_level_in_column l s new o) there

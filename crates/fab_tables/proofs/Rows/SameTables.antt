@@ -13,18 +13,19 @@ use Rattle.fab_tables.proofs.Rows.SameCells.{same_cells, place_is}
 
 -- tables with the same entries are the same
 module _ (t : Topology) (e f : Entries) (x : EntriesFit t e) (y : EntriesFit t f) (same : (s lid : ℕ) → entry e s lid ≡ entry f s lid) where
-  entry_at : (g : Entries) (row i : ℕ) → EntriesFit t g → i < length (lids_of t) → slice_index_or g.ports (cell (length (lids_of t)) row i) 255 ≡ entry g row (slice_index_or (lids_of t) i 0)
-  entry_at g row i z low =
-      sym (ap (λ ns. port_in_column g row (index_of (slice_index_or (lids_of t) i 0) ns)) z.in_use
-      ∙ ap (λ o. port_in_column g row o) (place_is (lids_of t) i (subst IsStrictlyIncreasing z.in_use z.whole.ascending) low)
-      ∙ ap (λ ns. slice_index_or g.ports (cell (length ns) row i) 255) z.in_use)
+  entry_at : (g : Entries) (s i : ℕ) → EntriesFit t g → s < length t.switches → i < length (lids_of t) → slice_index_or g.ports (cell (length t.switches) i s) 255 ≡ entry g s (slice_index_or (lids_of t) i 0)
+  entry_at g s i z of_fabric low =
+      sym (ap (λ ns. port_in_column g s (index_of (slice_index_or (lids_of t) i 0) ns)) z.in_use
+      ∙ ap (λ o. port_in_column g s o) (place_is (lids_of t) i (subst IsStrictlyIncreasing z.in_use z.whole.ascending) low)
+      ∙ cond-true (nat_lt s g.switches) (slice_index_or g.ports (cell g.switches i s) 255) 255 (lt-ltb s g.switches (omega (arith, of_fabric, z.switches)))
+      ∙ ap (λ n. slice_index_or g.ports (cell n i s) 255) z.switches)
 
   ports : e.ports ≡ f.ports
-  ports = same_cells e.ports f.ports (length t.switches) (length (lids_of t)) 255 (all_ports e x) (all_ports f y)
-      (λ row i a b. entry_at e row i x b ∙ same row (slice_index_or (lids_of t) i 0) ∙ sym (entry_at f row i y b))
+  ports = same_cells e.ports f.ports (length (lids_of t)) (length t.switches) 255 (all_ports e x) (all_ports f y)
+      (λ i s a b. entry_at e s i x b a ∙ same s (slice_index_or (lids_of t) i 0) ∙ sym (entry_at f s i y b a))
     where
-      all_ports : (g : Entries) → EntriesFit t g → length g.ports ≡ length t.switches * length (lids_of t)
-      all_ports g z = z.whole.whole ∙ ap (λ n. n * length g.in_use) z.switches ∙ ap (λ ns. length t.switches * length ns) z.in_use
+      all_ports : (g : Entries) → EntriesFit t g → length g.ports ≡ length (lids_of t) * length t.switches
+      all_ports g z = z.whole.whole ∙ ap (λ ns. length ns * g.switches) z.in_use ∙ ap (λ n. length (lids_of t) * n) z.switches
 
   pub entries_same : e ≡ f
   entries_same =
@@ -40,18 +41,19 @@ same_tables count switches channels in_use levels general pairs m a b c d e f g 
 -- lanes that fit, with the engines' maps and the same levels, differ in their numbers alone
 module _ (t : Topology) (l m : LaneTables) (x : LanesFit t l) (y : LanesFit t m) (count : l.count ≡ m.count) (maps_l : HasLanePerLevel l) (maps_m : HasLanePerLevel m)
     (same : (s lid : ℕ) → level l s lid ≡ level m s lid) where
-  level_at : (k : LaneTables) (row i : ℕ) → LanesFit t k → i < length (lids_of t) → slice_index_or k.levels (cell (length (lids_of t)) row i) None ≡ level k row (slice_index_or (lids_of t) i 0)
-  level_at k row i z low =
-      sym (ap (λ ns. level_in_column k row (index_of (slice_index_or (lids_of t) i 0) ns)) z.in_use
-      ∙ ap (λ o. level_in_column k row o) (place_is (lids_of t) i (subst IsStrictlyIncreasing z.in_use z.whole.ascending) low)
-      ∙ ap (λ (ns : List ℕ). slice_index_or k.levels (cell (length ns) row i) None) z.in_use)
+  level_at : (k : LaneTables) (s i : ℕ) → LanesFit t k → s < length t.switches → i < length (lids_of t) → slice_index_or k.levels (cell (length t.switches) i s) None ≡ level k s (slice_index_or (lids_of t) i 0)
+  level_at k s i z of_fabric low =
+      sym (ap (λ ns. level_in_column k s (index_of (slice_index_or (lids_of t) i 0) ns)) z.in_use
+      ∙ ap (λ o. level_in_column k s o) (place_is (lids_of t) i (subst IsStrictlyIncreasing z.in_use z.whole.ascending) low)
+      ∙ cond-true (nat_lt s k.switches) (slice_index_or k.levels (cell k.switches i s) None) None (lt-ltb s k.switches (omega (arith, of_fabric, z.switches)))
+      ∙ ap (λ n. slice_index_or k.levels (cell n i s) None) z.switches)
 
   levels : m.levels ≡ l.levels
-  levels = same_cells m.levels l.levels (length t.switches) (length (lids_of t)) None (whole m y) (whole l x)
-      (λ row i a b. level_at m row i y b ∙ sym (same row (slice_index_or (lids_of t) i 0)) ∙ sym (level_at l row i x b))
+  levels = same_cells m.levels l.levels (length (lids_of t)) (length t.switches) None (whole m y) (whole l x)
+      (λ i s a b. level_at m s i y b a ∙ sym (same s (slice_index_or (lids_of t) i 0)) ∙ sym (level_at l s i x b a))
     where
-      whole : (k : LaneTables) → LanesFit t k → length k.levels ≡ length t.switches * length (lids_of t)
-      whole k z = z.whole.all_levels ∙ ap (λ n. n * length k.in_use) z.switches ∙ ap (λ (ns : List ℕ). length t.switches * length ns) z.in_use
+      whole : (k : LaneTables) → LanesFit t k → length k.levels ≡ length (lids_of t) * length t.switches
+      whole k z = z.whole.all_levels ∙ ap (λ (ns : List ℕ). length ns * k.switches) z.in_use ∙ ap (λ n. length (lids_of t) * n) z.switches
 
   general : m.general ≡ l.general
   general = same_cells m.general l.general (length t.switches) 16 15 (whole m y) (whole l x) (λ row i a b. mapped m row i y maps_m a b ∙ ap (λ n. lane_of_level n i) (sym count) ∙ sym (mapped l row i x maps_l a b))

@@ -61,7 +61,7 @@ loop-start-preserved c =
           (let found = w.fault_from-fault.result in
           let clear : IsClear t l P lid start =
           found_clear t e l P choice lid starts k start at found (none_found found (sym w.is_some.ensures ∙ w.if-is_some.false)) (λ x. none_is found _ (w.fault_from-fault.ensures.no_level x)) w.fault_from-fault.ensures.hops in
-          (subst (λ marks. AreJudged c.args.faults t e l lid marks) (sym w.marks-is) w.fault_from-fault.ensures.judged, one_clear_more t e l P choice lid starts k start at before.1 clear))
+          (subst (λ marks. AreJudged c.args.faults t e l lid marks) (sym w.marks-is) (w.fault_from-fault.ensures.judged (none_found found (sym w.is_some.ensures ∙ w.if-is_some.false))), one_clear_more t e l P choice lid starts k start at before.1 clear))
       | else-are_connected w ↦ (
         subst (λ marks. AreJudged c.args.faults t e l lid marks) (sym w.marks-is) before.0,
         one_clear_more t e l P choice lid starts k start at before.1

@@ -1,17 +1,22 @@
-use Rattle.std.proofs.Common.{◌≡◌, Bool, true, false, Some, None, Option, refl, not}
-use Rattle.std.specs.Prelude.{is_some}
-use Rattle.fab_tables.specs.declared.verdict.Verdict.{Verdict}
-use Rattle.fab_tables.proofs.Faults.Judged.{right_from}
+use Rattle.std.proofs.Common.{◌≡◌, ◌<◌, Some, [], sym, ◌∙◌}
+use Rattle.std.proofs.lemmas.List.{nil_from_length}
+use Rattle.fab_tables.specs.LaneTables.{level}
+use Rattle.fab_tables.proofs.Rows.LevelsLow.{level_low}
+use Rattle.fab_tables.proofs.Faults.HopFaults.{right_clear}
+use Rattle.fab_tables.proofs.Faults.Judged.{plain_right}
 use Rattle.fab_tables.proofs.lane_faults.fault_from.Goals as goal
 
-nothing : (o : Option Verdict) (b : Bool) → is_some o ≡ not b → b ≡ true → o ≡ None
-nothing None b is e = refl
-nothing (Some v) true is e = cc
-nothing (Some v) false is e = cc
-
-pub returns-then-is_none-clause-judged : goal.returns-then-is_none-clause-judged
-returns-then-is_none-clause-judged c =
-    c.mark_route.ensures.judged c.args.faults c.args.lanes.now
-    (right_from c.args.faults c.args.fabric.now c.args.tables.now c.args.lanes.now c.args.lid.0 c.args.start.switch.0 c.args.start.port c.in-Some.level
-    (c.first_hop_fault-fault.ensures.right (nothing c.first_hop_fault-fault.result c.is_none.result c.is_none.ensures c.if-is_none.true)))
-    c.requires.judged
+-- without maps of pairs all hops from a marked switch are right
+pub returns-then-is_marked-clause-hops : goal.returns-then-is_marked-clause-hops
+returns-then-is_marked-clause-hops c some =
+    let t = c.args.fabric.now in
+    let e = c.args.tables.now in
+    let l = c.args.lanes.now in
+    let lid = c.args.lid in
+    let start = c.args.start in
+    let has_level : level l start.switch.0 lid.0 ≡ Some c.in-Some.level = sym c.level.ensures ∙ c.in-Some.is in
+    let low : c.in-Some.level < 16 = level_low l start.switch.0 lid.0 c.in-Some.level c.requires.lanes.whole has_level in
+    let plain : l.pairs ≡ [] = nil_from_length l.pairs (sym c.pairs.ensures ∙ c.if-pairs-eq0.true) in
+    right_clear c.args.faults t e l lid start c.in-Some.level
+    (record { toward = c.requires.toward; lanes = c.requires.lanes; terminal = c.requires.terminal; connected = c.requires.connected; has_level = has_level })
+    (plain_right c.args.faults t e l lid.0 start.switch.0 c.in-Some.level plain (c.requires.judged.right start.switch.0 c.in-Some.level low (sym c.is_marked.ensures ∙ c.if-is_marked.true)) start.port)

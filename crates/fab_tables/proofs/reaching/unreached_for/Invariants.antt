@@ -7,4 +7,4 @@ use Rattle.fab_tables.proofs.reaching.unreached_for.Given as goal
 
 abbrev pub invariant-loop-s : goal.invariant-loop-s
 invariant-loop-s l =
-    AreDelivered l.fabric l.tables l.lid.0 l.delivered × ((s : ℕ) → s < l.s → FindsFirst (Beneath (0 ∷ l.lid.0 ∷ s ∷ []) (IsFaultAt l.fabric l.tables None)) None)
+    AreDelivered l.fabric l.tables l.lid.0 l.s l.delivered × ((s : ℕ) → s < l.s → FindsFirst (Beneath (0 ∷ l.lid.0 ∷ s ∷ []) (IsFaultAt l.fabric l.tables None)) None)

@@ -1,8 +1,0 @@
-use Rattle.fab_tables.specs.Reaching.{AreDelivered}
-use Rattle.fab_tables.proofs.Paths.Ways.{IsOnWay}
-use Rattle.fab_tables.proofs.reaching.mark_route.Given as goal
-
-abbrev pub invariant-loop-channel : goal.invariant-loop-channel
-invariant-loop-channel l =
-    (goal.iterator-loop-channel).can_next l.channel-iterator × (goal.iterator-loop-channel).is_finite l.channel-iterator
-    × IsOnWay l.fabric l.tables l.fn.from.0 l.fn.lid.0 l.channel-iterator × AreDelivered l.fabric l.tables l.fn.lid.0 l.delivered
