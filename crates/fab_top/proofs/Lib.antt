@@ -12,6 +12,7 @@ pub mod SpelledCommands
 pub mod ReadFits
 pub mod AfterFiles
 pub mod Generating
+pub mod Cutting
 pub mod Loading
 pub mod Showing
 pub mod Answering

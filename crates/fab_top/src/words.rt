@@ -167,6 +167,13 @@ fn command_of(words: &[String]) -> Option<Command>
         "check" => on_two_files(others, Command::Check { fabric: 1, plan: 2 }),
         "certify" => on_two_files(others, Command::Certify { fabric: 1, plan: 2 }),
         "convert" => on_two_files(others, Command::Convert { fabric: 1, plan: 2 }),
+        "cut" => on_two_files(
+            others,
+            Command::Cut {
+                fabric: 1,
+                failed: 2,
+            },
+        ),
         "show" => show_words(others),
         "load" => on_two_files(others, Command::Load { fabric: 1, plan: 2 }),
         "gen" => gen_words(others),
