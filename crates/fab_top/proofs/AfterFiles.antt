@@ -4,7 +4,6 @@
 --     small      a small status
 --     exists     an answer
 use Rattle.std.proofs.Common.{◌≡◌, ℕ, ◌≤◌, List, Result, Ok, Err, refl, sym, subst, ◌∙◌, arith}
-use Rattle.fab_model.specs.declared.rows.Cable.{Cable}
 use Rattle.fab_model.specs.Topology.{Topology, HasNoOwnCable}
 use Rattle.fab_model.specs.WellFormed.{IsFabric}
 use Rattle.fab_tables.specs.declared.plan.Plan.{Plan}

@@ -6,7 +6,7 @@ pub mod Running
 pub mod Judging
 pub mod Taking
 pub mod Certifying
-pub mod WordNumbers
+pub mod LowNumbers
 pub mod Wording
 pub mod SpelledCommands
 pub mod ReadFits
@@ -16,3 +16,4 @@ pub mod Cutting
 pub mod Loading
 pub mod Showing
 pub mod Answering
+mod Examples

@@ -39,6 +39,7 @@ fn has_leading_zero(word: &str) -> bool
 }
 
 /// A decimal number of at most a value, without leading zeros.
+#[tactic(auto, using(crate::proofs::LowNumbers::number_is))]
 fn number_in(greatest: u64, word: &str) -> Option<u64>
     ensures number { result ≡ number_in greatest word.now }
     ensures below { IfSome result (λ number. number ≤ greatest) }
@@ -54,6 +55,7 @@ fn number_in(greatest: u64, word: &str) -> Option<u64>
 }
 
 /// `0x` and 1 to 4 hexadecimal digits.
+#[tactic(auto, using(crate::proofs::LowNumbers::short_hex_is))]
 fn hex_in(word: &str) -> Option<u16>
     ensures { result ≡ hex 4 word.now }
 {

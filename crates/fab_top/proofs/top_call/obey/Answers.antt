@@ -1,4 +1,4 @@
-use Rattle.std.proofs.Common.{List, ℕ, subst, sym}
+use Rattle.std.proofs.Common.{subst, sym}
 use Rattle.fab_report.specs.Recipes.{generated}
 use Rattle.fab_top.specs.declared.command.Command.{Command}
 use Rattle.fab_top.specs.Answers.{IsFabricText}
