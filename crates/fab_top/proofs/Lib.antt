@@ -6,12 +6,14 @@ pub mod Running
 pub mod Judging
 pub mod Taking
 pub mod Certifying
-pub mod WordNumbers
+pub mod LowNumbers
 pub mod Wording
 pub mod SpelledCommands
 pub mod ReadFits
 pub mod AfterFiles
 pub mod Generating
+pub mod Cutting
 pub mod Loading
 pub mod Showing
 pub mod Answering
+mod Examples

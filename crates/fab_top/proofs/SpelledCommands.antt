@@ -9,10 +9,10 @@ use Rattle.fab_report.specs.declared.recipe.Recipe.{Recipe}
 use Rattle.fab_report.specs.Laws.{HasSeed}
 use Rattle.fab_report.specs.Recipes.{fits}
 use Rattle.fab_top.specs.declared.command.Command.{Command}
-use Rattle.fab_top.specs.declared.command.Command.TheVariants.{Check, Certify, Convert, Show, Load, Gen}
+use Rattle.fab_top.specs.declared.command.Command.TheVariants.{Check, Certify, Convert, Cut, Load, Gen}
 use Rattle.fab_top.specs.Ran.{files_of}
 use Rattle.fab_top.specs.Words.{texts, is_file, named, number_in, kinds, two_files, recipe_of, recipe_in, lid_in, show_from_to, show_words, gen_words, commands, command_of}
-use Rattle.fab_top.proofs.WordNumbers.{number_is_low}
+use Rattle.fab_top.proofs.LowNumbers.{number_is_low}
 
 -- each place is below a number
 abbrev pub AllBelow : ℕ → List ℕ → Type 0
@@ -142,10 +142,13 @@ all_right = (
     (
       two_within (λ f p. Convert f p) (record { places = both_places; recipe = tt }),
       (
-        show_within,
+        two_within (λ f x. Cut f x) (record { places = both_places; recipe = tt }),
         (
-          two_within (λ f p. Load f p) (record { places = both_places; recipe = tt }),
-          (gen_within, tt),
+          show_within,
+          (
+            two_within (λ f p. Load f p) (record { places = both_places; recipe = tt }),
+            (gen_within, tt),
+          ),
         ),
       ),
     ),

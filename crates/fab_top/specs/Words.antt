@@ -2,6 +2,7 @@
 --     check FABRIC PLAN
 --     certify FABRIC PLAN
 --     convert FABRIC PLAN
+--     cut FABRIC FAILED
 --     show FABRIC PLAN SRC DST
 --     load FABRIC PLAN
 --     gen KIND A B SEED
@@ -83,6 +84,7 @@ gen_words _ = None
 abbrev pub commands : List (List ℕ × (List (List ℕ) → Option Command))
 commands =
     (codes "check", two_files command.Check) ∷ (codes "certify", two_files command.Certify) ∷ (codes "convert", two_files command.Convert)
+    ∷ (codes "cut", two_files command.Cut)
     ∷ (codes "show", show_words) ∷ (codes "load", two_files command.Load) ∷ (codes "gen", gen_words) ∷ []
 
 -- the command that the words spell, if they are in the grammar
