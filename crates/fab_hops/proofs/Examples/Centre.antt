@@ -1,6 +1,6 @@
 -- The centre order of three switches in a row is second, first, third.
-use Rattle.std.proofs.Common.{◌≡◌, ℕ, zero, suc, ◌<◌, ◌≤◌, List, [], ◌∷◌, length, inl, inr, refl, subst, arith, Contains}
-use Rattle.std.specs.Prelude.{AllPairs, IfSome, slice_index_or}
+use Rattle.std.proofs.Common.{◌≡◌, ℕ, zero, suc, ◌<◌, ◌≤◌, List, [], ◌∷◌, inl, inr, refl, subst, arith, Contains}
+use Rattle.std.specs.Prelude.{IfSome, slice_index_or}
 use Rattle.fab_model.specs.Connected.{AreConnected}
 use Rattle.fab_hops.specs.HopCounts.{IsHopCount, hop_count}
 use Rattle.fab_hops.specs.Centres.{IsEccentricity, IsNearerCentre, IsCentreOrder}

@@ -1,5 +1,5 @@
 -- Three switches in a row, and their table of hop counts: it is two hops from the first to the third.
-use Rattle.std.proofs.Common.{◌≡◌, ◌≢◌, ℕ, zero, suc, ◌<◌, ◌≤◌, [], ◌∷◌, ◌⊎◌, inl, inr, Some, refl, sym, arith, Contains}
+use Rattle.std.proofs.Common.{◌≡◌, ◌≢◌, ℕ, zero, suc, ◌<◌, ◌≤◌, [], ◌∷◌, ◌⊎◌, inl, inr, Some, refl, arith}
 use Rattle.std.specs.Prelude.{All, MatchOption}
 use Rattle.std.proofs.lemmas.List.Elements.{All-from_recursion, All-contains}
 use Rattle.fab_graph.specs.Walks.{Walk}
@@ -7,7 +7,7 @@ use Rattle.fab_model.specs.declared.rows.SwitchRow.{SwitchRow}
 use Rattle.fab_model.specs.declared.rows.ChannelRow.{ChannelRow}
 use Rattle.fab_model.specs.Topology.{Topology}
 use Rattle.fab_model.specs.Connected.{LeadsTo, AreConnected}
-use Rattle.fab_hops.specs.HopCounts.{IsHopCount, HopTable, IsHopTable, AreHops, hop_count}
+use Rattle.fab_hops.specs.HopCounts.{IsHopCount, HopTable, AreHops, hop_count}
 use Rattle.fab_hops.proofs.HopWalks.{no_hops}
 
 abbrev switch : ℕ → ℕ → SwitchRow
