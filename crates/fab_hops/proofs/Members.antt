@@ -1,6 +1,6 @@
 -- The switches of a component with their greatest hop counts, which sorted are its centre order.
 use Rattle.std.proofs.Common.{◌≡◌, ◌≢◌, ℕ, ◌+◌, ◌<◌, ◌≤◌, ◌⊎◌, inl, inr, true, false, List, [], ◌∷◌, ◌++◌, length, map, cond, refl, sym, ◌∙◌, ap, subst, arith, Option, Some, None, Contains, IsPermutation, is_lt, nat_cmp}
-use Rattle.std.specs.Prelude.{slice_index_or, ◌↔◌, AllPairs, is_some, ◌==◌}
+use Rattle.std.specs.Prelude.{slice_index_or, is_some, ◌==◌}
 use Rattle.std.specs.Ordering.{ordering_then}
 use Rattle.std.specs.List.Sorted.{IsSortedBy}
 use Rattle.std.proofs.lemmas.Bool.{cases_eq, cases_lt, eq-eqb, ne_eqb}

@@ -1,6 +1,6 @@
 -- The queue of the search: a switch is taken, its channels are looked at one after the other, and the tips that are found wait behind the others.
-use Rattle.std.proofs.Common.{◌≡◌, ◌≢◌, ℕ, zero, suc, ◌+◌, ◌<◌, ◌≤◌, ◌^◌, List, [], ◌∷◌, ◌++◌, length, refl, sym, ◌∙◌, ap, subst, inl, inr, ◌⊎◌, arith, Some, None, Option, Contains, Bool, true, false, append_assoc, cond}
-use Rattle.std.specs.Prelude.{slice_set, slice_get, slice_index_or, option_map, count_by, nat_lt, MatchOption, ◌==◌}
+use Rattle.std.proofs.Common.{◌≡◌, ℕ, suc, ◌+◌, ◌<◌, ◌≤◌, List, [], ◌∷◌, ◌++◌, length, refl, sym, ◌∙◌, ap, subst, inl, inr, arith, Some, None, Contains, Bool, true, false, append_assoc, cond}
+use Rattle.std.specs.Prelude.{slice_set, slice_get, slice_index_or, option_map, nat_lt, MatchOption, ◌==◌}
 use Rattle.std.proofs.lemmas.Bool.{cases_lt, ltb-true, ltb-false, eq-eqb, ne_eqb}
 use Rattle.std.proofs.lemmas.List.{length_push, append-nil, get_or_past, get_or_default}
 use Rattle.std.proofs.lemmas.List.Elements.{Contains-get_or}
@@ -12,10 +12,10 @@ use Rattle.fab_model.specs.Topology.{Topology, switch_id, first_channel}
 use Rattle.fab_model.specs.Connected.{LeadsTo, AreConnected}
 use Rattle.fab_model.specs.WellFormed.{IsWellFormed}
 use Rattle.fab_hops.specs.HopCounts.{IsHopCount}
-use Rattle.fab_hops.specs.HopCodes.{count_of_code, code_at}
+use Rattle.fab_hops.specs.HopCodes.{code_at}
 use Rattle.fab_hops.specs.Searching.{IsHopRow, IsReached, IsSearching, IsQueue, IsLooking, unreached}
 use Rattle.fab_hops.proofs.HopLaws.{hops_small}
-use Rattle.fab_hops.proofs.HopWalks.{leads_below, count_is_symmetric}
+use Rattle.fab_hops.proofs.HopWalks.{leads_below}
 use Rattle.fab_hops.proofs.Leaving.{leaves_from, stands_between}
 use Rattle.fab_hops.proofs.Searching.{found_tip, still, tip_reached, looked_at, next_hop, search_begun, all_reached}
 

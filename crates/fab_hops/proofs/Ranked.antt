@@ -1,5 +1,5 @@
 -- Switches with numbers, sorted by (number, switch).
-use Rattle.std.proofs.Common.{◌≡◌, ◌≢◌, ℕ, zero, suc, ◌+◌, ◌<◌, ◌≤◌, Bool, true, false, List, [], ◌∷◌, ◌++◌, length, map, cond, eqb, refl, sym, ◌∙◌, ap, subst, inl, inr, ◌⊎◌, arith, Contains, Ordering, is_lt, nat_cmp, IsPermutation, add-one}
+use Rattle.std.proofs.Common.{◌≡◌, ◌≢◌, ℕ, zero, suc, ◌+◌, ◌<◌, ◌≤◌, Bool, true, false, List, [], ◌∷◌, length, cond, eqb, refl, sym, ◌∙◌, ap, subst, inl, inr, ◌⊎◌, arith, Ordering, is_lt, nat_cmp, IsPermutation, add-one}
 use Rattle.std.specs.Prelude.{slice_index_or, nat_lt, count_by, ◌==◌}
 use Rattle.std.specs.Ordering.{ordering_then}
 use Rattle.std.specs.List.Sorted.{IsSortedBy}

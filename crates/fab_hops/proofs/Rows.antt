@@ -1,6 +1,6 @@
 -- The rows of a table, one after the other.
-use Rattle.std.proofs.Common.{rules, ◌≡◌, ℕ, zero, suc, ◌+◌, ◌*◌, ◌-◌, ◌<◌, ◌≤◌, ◌^◌, Bool, true, false, List, length, map, cond, refl, sym, ◌∙◌, ap, subst, inl, inr, arith, Some, None, Option, take, drop, get_or}
-use Rattle.std.specs.Prelude.{slice_index_or, slice_range, MatchOption, All, IfSome, nat_lt}
+use Rattle.std.proofs.Common.{rules, ◌≡◌, ℕ, ◌+◌, ◌*◌, ◌-◌, ◌<◌, ◌≤◌, ◌^◌, Bool, true, false, List, length, map, cond, refl, sym, ◌∙◌, ap, subst, inl, inr, arith, Some, None, Option, take, drop, get_or}
+use Rattle.std.specs.Prelude.{slice_index_or, MatchOption, IfSome, nat_lt}
 use Rattle.std.proofs.Math.Nat.{mul-le-mul_left}
 use Rattle.std.proofs.lemmas.Bool.{cases_lt, ltb-true}
 use Rattle.std.proofs.lemmas.List.{get_or-take, get_or-drop, get_or-map, length-map, length-take, length-drop}
@@ -9,7 +9,7 @@ use Rattle.std.proofs.lemmas.Slice.{take-put_mid_below, between-put_mid, drop-pu
 use borrow.Rule.Slice.PartMut.{put_mid}
 use Rattle.fab_model.specs.Topology.{Topology}
 use Rattle.fab_model.specs.Connected.{AreConnected}
-use Rattle.fab_hops.specs.HopCounts.{IsHopCount, HopTable, IsHopTable, AreHops}
+use Rattle.fab_hops.specs.HopCounts.{IsHopCount, IsHopTable, AreHops}
 use Rattle.fab_hops.specs.HopCodes.{count_of_code, code_at}
 use Rattle.fab_hops.specs.Searching.{IsHopRow}
 
@@ -26,7 +26,7 @@ pub record AreRows (t : Topology) (count : ℕ) (codes : List ℕ) : Type 0 wher
 -- ---- places
 
 -- the row of a number ends before that of a greater one begins
-row_before : (from start n : ℕ) → from < start → from * n + n ≤ start * n
+pub row_before : (from start n : ℕ) → from < start → from * n + n ≤ start * n
 row_before from start n h =
     let low : from + 1 ≤ start = omega (arith, h) in
     omega (arith, mul-le-mul_left n low)

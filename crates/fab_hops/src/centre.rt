@@ -1,8 +1,8 @@
 //! The order of a component from its centre outward.
 //!
 //! The eccentricity of a switch is its greatest hop count to a switch of its component; the centre has the least.
-//! Finding the order takes the rows of the component's switches, and sorting: time in the switches of the component
-//! times all switches, memory of twelve bytes for each switch of the component.
+//! Finding the order goes through the rows of the component's switches, and sorts them: for n of S switches
+//! O(n * (S + log n)) time, and 12 bytes for each of the n.
 ghost use Rattle.std.specs.Prelude.{◌≡◌, ◌<◌, map, IfOk};
 ghost use Rattle.fab_model.specs.declared.rows.SwitchId.{SwitchId as Switch};
 ghost use Rattle.fab_model.specs.Topology.{Topology};
@@ -15,8 +15,8 @@ use fab_model::SwitchId;
 use std::alloc::{AllocError, Global};
 
 impl Hops {
-    /// The switches of the component of `s`, by (greatest hop count to any of them, index). An error comes where
-    /// there is no memory for them.
+    /// The switches of the component of `s`, by (greatest hop count to any of them, index): its centre first.
+    /// An error comes where there is no memory for them. For n of S switches it takes O(n * (S + log n)) time.
     pub fn centre_order(&self, alloc: Global, s: SwitchId) -> Result<Vec<SwitchId>, AllocError>
         requires { s.0 < self.now.switches }
         // Of every fabric with these hop counts.

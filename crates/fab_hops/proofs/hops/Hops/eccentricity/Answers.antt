@@ -1,4 +1,4 @@
-use Rattle.std.proofs.Common.{◌≡◌, ℕ, ◌+◌, ◌<◌, Option, Some, None, sym, ◌∙◌, subst, arith}
+use Rattle.std.proofs.Common.{◌≡◌, ℕ, ◌+◌, ◌<◌, Some, sym, ◌∙◌, subst, arith}
 use Rattle.fab_hops.specs.HopCounts.{hop_count}
 use Rattle.fab_hops.proofs.GreatestHops.{IsAttained, IsGreatest, attained_more, greatest_more, greatest_still}
 use Rattle.fab_hops.proofs.hops.Hops.eccentricity.Goals as goal

@@ -1,4 +1,4 @@
-use Rattle.std.proofs.Common.{◌≡◌, ◌+◌, ◌*◌, ◌-◌, ◌<◌, ◌∙◌, sym, ap, subst, length, arith}
+use Rattle.std.proofs.Common.{◌≡◌, ◌+◌, ◌*◌, ◌-◌, ◌∙◌, sym, ap, subst, length, arith}
 use Rattle.std.proofs.lemmas.List.{with_items_is}
 use borrow.Rule.Slice.PartMut.{put_mid}
 use Rattle.fab_hops.proofs.Rows.{AreRows, row_written, is_table, are_hops}
@@ -10,9 +10,9 @@ loop-start-preserved c =
     let width = c.switches-switch_count.result in
     let codes = c.loop-start.codes in
     let old = c.deref_mut.result.now in
-    let row = c.search.new.row in
-    let written = row_written c.args.fabric.now start width codes.items old row c.switches-switch_count.ensures.count c.deref_mut.ensures.value (omega arith) c.loop-start.invariant.rows c.search.auto.row c.in_ok-search.ensures.row in
-    rw (with_items_is codes (put_mid (start * width) (start * width + width - start * width) old row) (written.1 ∙ sym codes.ok.0)) (record { rows = written.0; empty = c.in_ok-search.ensures.empty })
+    let row = c.count_hops.new.row in
+    let written = row_written c.args.fabric.now start width codes.items old row c.switches-switch_count.ensures.count c.deref_mut.ensures.value (omega arith) c.loop-start.invariant.rows c.count_hops.auto.row c.in_ok-count_hops.ensures.row in
+    rw (with_items_is codes (put_mid (start * width) (start * width + width - start * width) old row) (written.1 ∙ sym codes.ok.0)) (record { rows = written.0; empty = c.in_ok-count_hops.ensures.empty })
 
 pub invariant_of-result : goal.invariant_of-result
 invariant_of-result c =

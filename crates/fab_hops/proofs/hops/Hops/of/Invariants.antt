@@ -1,6 +1,5 @@
 -- The rows so far have their hop counts, and the others none yet.
-use Rattle.std.proofs.Common.{◌≡◌, ◌*◌, ℕ, ◌<◌, ◌≤◌, [], length}
-use Rattle.fab_hops.specs.HopCodes.{code_at}
+use Rattle.std.proofs.Common.{◌≡◌, []}
 use Rattle.fab_hops.proofs.Rows.{AreRows}
 use Rattle.fab_hops.proofs.hops.Hops.of.Given as goal
 

@@ -1,10 +1,10 @@
-use Rattle.std.proofs.Common.{◌≡◌, ◌≢◌, ℕ, ◌+◌, ◌<◌, ◌∙◌, length, sym, arith}
+use Rattle.std.proofs.Common.{◌≡◌, ◌<◌, ◌∙◌, length, sym, arith}
 use Rattle.std.specs.Prelude.{slice_index_or}
 use Rattle.std.proofs.lemmas.List.{get_or_default}
 use Rattle.fab_hops.specs.HopCodes.{code_at}
 use Rattle.fab_hops.proofs.Queue.{tip_within, looks_new, looks_old, looked, one_more}
-use Rattle.fab_hops.proofs.search.reach_tips.Goals as goal
-use Rattle.fab_hops.proofs.search.reach_tips.Goals.{then-row-tip+in_ok-push_back, else-row-tip}
+use Rattle.fab_hops.proofs.hop_search.reach_tips.Goals as goal
+use Rattle.fab_hops.proofs.hop_search.reach_tips.Goals.{then-row-tip+in_ok-push_back, else-row-tip}
 
 pub bounds-row-tip : goal.bounds-row-tip
 bounds-row-tip c = omega (

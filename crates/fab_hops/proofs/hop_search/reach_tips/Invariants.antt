@@ -2,7 +2,7 @@
 use Rattle.std.proofs.Common.{◌≡◌, ◌+◌, ℕ, length}
 use Rattle.fab_model.specs.Topology.{first_channel}
 use Rattle.fab_hops.specs.Searching.{IsLooking, unreached}
-use Rattle.fab_hops.proofs.search.reach_tips.Given as goal
+use Rattle.fab_hops.proofs.hop_search.reach_tips.Given as goal
 
 abbrev pub invariant-loop-channel : goal.invariant-loop-channel
 invariant-loop-channel l = record {

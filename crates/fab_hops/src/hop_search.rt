@@ -18,7 +18,7 @@ use std::alloc::AllocError;
 use std::collections::VecDeque;
 
 /// Writes the hop counts from a switch into a row that has none. The queue is empty before and after.
-pub(crate) fn search(
+pub(crate) fn count_hops(
     fabric: &Fabric,
     start: SwitchId,
     row: &mut [u16],

@@ -1,10 +1,10 @@
-use Rattle.std.proofs.Common.{◌≡◌, ◌+◌, ◌<◌, ◌∙◌, List, [], ◌∷◌, ◌++◌, sym, ap, subst, length, arith}
+use Rattle.std.proofs.Common.{◌≡◌, ◌∙◌, List, [], ◌∷◌, ◌++◌, sym, ap, subst, length, arith}
 use Rattle.std.specs.Prelude.{slice_set}
 use Rattle.std.proofs.lemmas.List.{length-set, nil_from_length}
 use Rattle.fab_model.specs.declared.rows.SwitchId.{SwitchId}
 use Rattle.fab_hops.specs.Searching.{IsQueue}
 use Rattle.fab_hops.proofs.Queue.{IsTaken, is_taken, begun, done}
-use Rattle.fab_hops.proofs.search.search.Goals as goal
+use Rattle.fab_hops.proofs.hop_search.count_hops.Goals as goal
 
 pub bounds-row-switch : goal.bounds-row-switch
 bounds-row-switch c =
