@@ -19,7 +19,7 @@ use Rattle.fab_tables.proofs.Joined.Lids.{lid_in_use}
 use Rattle.fab_tables.proofs.Paths.FallingRoutes.{connected_below}
 use Rattle.fab_hops.specs.HopCounts.{IsHopCount}
 use Rattle.fab_hops.proofs.HopLaws.{one_hop_count}
-use Rattle.fab_hops.proofs.HopWalks.{connected_have_count, some_nearer}
+use Rattle.fab_hops.proofs.HopWalks.{connected_have_count, leads_nearer, no_hops}
 use Rattle.fab_balance.specs.Eligible.{LeadsNearer, HasNoNearerPort}
 use Rattle.fab_balance.specs.Choosing.{AreChosenAt, KeepsOtherSwitches}
 use Rattle.fab_balance.proofs.EntriesSet.{fixed_kept, entry_set, entry_kept}
@@ -32,7 +32,7 @@ pub nearer_is_chosen : (t : Topology) (s lid port : ℕ) (place : Place) → pla
 nearer_is_chosen t s lid port place at x = record { place = place; in_use = at; at_switch = refl; connected = (suc x.hops, x.from_here.holds); other = other }
   where
     other : s ≢ place.switch.0
-    other same = omega (arith, one_hop_count t s place.switch.0 (suc x.hops) 0 x.from_here (record { holds = same; least = λ m w. omega arith }))
+    other same = omega (arith, one_hop_count t s place.switch.0 (suc x.hops) 0 x.from_here (no_hops t s place.switch.0 same))
 
 pub chosen_has_nearer : (t : Topology) → IsWellFormed t → (s lid to : ℕ) → IsChosen t s lid to → (port : ℕ) × LeadsNearer t s to port
 chosen_has_nearer t good s lid to is = go (connected_have_count t s to is.connected)
@@ -53,7 +53,7 @@ chosen_has_nearer t good s lid to is = go (connected_have_count t s to is.connec
 
     go : (n : ℕ) × IsHopCount t s to n → (port : ℕ) × LeadsNearer t s to port
     go (zero, count) = absurd (is.other count.holds)
-    go (suc hops, count) = by_next hops count (some_nearer t s to hops count)
+    go (suc hops, count) = by_next hops count (leads_nearer t s to hops count)
 
 pub none_is_chosen : (t : Topology) → IsWellFormed t → (s lid : ℕ) (place : Place) → place_of t lid ≡ Some place → HasNoNearerPort t s place.switch.0 → (to : ℕ) → ¬ IsChosen t s lid to
 none_is_chosen t good s lid place at none to is =

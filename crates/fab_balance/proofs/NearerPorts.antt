@@ -105,11 +105,11 @@ module _ (t : Topology) (good : IsWellFormed t) (s to c : ℕ) (row : ChannelRow
   tip_is = ap tip_of_row is
 
   module _ (h : HopTable) (are : AreHops t h) (b : to < length t.switches) (here : ℕ) (count : IsHopCount t s to here) where
-    pub leads_nearer : IsSomeAnd (hop_count h row.tip.0 to) (λ there. there < here) → LeadsNearer t s to row.port
-    leads_nearer fewer_there =
+    pub channel_leads_nearer : IsSomeAnd (hop_count h row.tip.0 to) (λ there. there < here) → LeadsNearer t s to row.port
+    channel_leads_nearer fewer_there =
         let f : (n : ℕ) × IsHopCount t row.tip.0 to n × (n < here) = some_fewer t h are row.tip.0 to tip_within b here fewer_there in
         let leads : LeadsTo t s row.tip.0 = (row, contains_read t.channels c row is, leaves_here, refl) in
-        let one_less : here ≡ suc f.0 = by_skip f.0 f.2 (no_channel_skips t s row.tip.0 to here f.0 leads count f.1) in
+        let one_less : here ≡ suc f.0 = omega (arith, f.2, no_channel_skips t s row.tip.0 to here f.0 leads count f.1) in
         record {
           channel = c;
           hops = f.0;
@@ -117,10 +117,6 @@ module _ (t : Topology) (good : IsWellFormed t) (s to c : ℕ) (row : ChannelRow
           from_here = subst (λ n. IsHopCount t s to n) one_less count;
           from_tip = subst (λ x. IsHopCount t x to f.0) (sym tip_is) f.1;
         }
-      where
-        by_skip : (n : ℕ) → n < here → (here < n + 1) ⊎ (here ≡ n + 1) → here ≡ suc n
-        by_skip n less (inl x) = omega arith
-        by_skip n less (inr x) = omega arith
 
     pub has_fewer : LeadsNearer t s to row.port → IsSomeAnd (hop_count h row.tip.0 to) (λ there. there < here)
     has_fewer x =

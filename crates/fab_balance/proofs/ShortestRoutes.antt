@@ -13,9 +13,9 @@ use Rattle.fab_tables.specs.Route.Hop.{Along, Stop}
 use Rattle.fab_tables.specs.declared.end.End.TheVariants.{Delivered}
 use Rattle.fab_tables.proofs.Paths.FallingRoutes.{own_delivers, goes_along, connected_below}
 use Rattle.fab_hops.specs.HopCounts.{IsHopCount}
-use Rattle.fab_hops.proofs.HopLaws.{one_hop_count}
+use Rattle.fab_hops.proofs.HopLaws.{one_hop_count, hops_small}
 use Rattle.fab_hops.proofs.HopWalks.{connected_have_count}
-use Rattle.fab_hops.proofs.SmallCounts.{count_is_small}
+
 use Rattle.fab_balance.specs.Eligible.{LeadsNearer}
 use Rattle.fab_balance.specs.Laws.{AreNearerTables, NearerRoutesAreShortest}
 
@@ -49,4 +49,4 @@ pub routes_are_shortest : NearerRoutesAreShortest
 routes_are_shortest t e s lid place good nearer is c =
     let joined : AreConnected t s place.switch.0 = (let P : Place → Type 0 = λ q. AreConnected t s q.switch.0 in subst P (same_Some c.0 place (sym c.1 ∙ is)) c.2) in
     let count : (n : ℕ) × IsHopCount t s place.switch.0 n = connected_have_count t s place.switch.0 joined in
-    within t e good nearer lid place is (length t.switches) s count.0 count.1 (count_is_small t s place.switch.0 count.0 good (connected_below t good s lid c) count.1)
+    within t e good nearer lid place is (length t.switches) s count.0 count.1 (hops_small t s place.switch.0 count.0 good (connected_below t good s lid c) count.1)

@@ -2,7 +2,7 @@ use Rattle.std.proofs.Common.{◌<◌, ◌≤◌, ℕ, List, sym, subst, arith, 
 use Rattle.std.proofs.lemmas.Bool.{true≢false}
 use Rattle.fab_hops.specs.HopCounts.{IsHopCount}
 use Rattle.fab_balance.specs.Eligible.{AreNearerPorts}
-use Rattle.fab_balance.proofs.NearerPorts.{counted, none_nearer, none_listed, no_ports, all_listed, one_listed, passed_over, leads_nearer, has_fewer, tip_within}
+use Rattle.fab_balance.proofs.NearerPorts.{counted, none_nearer, none_listed, no_ports, all_listed, one_listed, passed_over, channel_leads_nearer, has_fewer, tip_within}
 use Rattle.fab_balance.proofs.nearer_ports.find_nearer_ports.Goals as goal
 use Rattle.fab_balance.proofs.nearer_ports.find_nearer_ports.Goals.{then-is_nearer+in_ok-push, else-is_nearer}
 
@@ -43,7 +43,7 @@ loop-number-preserved c =
       | then-is_nearer+in_ok-push w ↦
           rw (w.ports-is, w.in_ok-push.ensures.items)
           (one_listed t c.requires.fabric.rows s to number row c.channel-channel.ensures from past c.loop-number.ports.items c.loop-number.invariant
-          (leads_nearer t c.requires.fabric.rows s to number row c.channel-channel.ensures from past c.args.hops.now c.requires.hops c.requires.to c.in-Some.here count (c.is_nearer.ensures.0 w.if-is_nearer.true)))
+          (channel_leads_nearer t c.requires.fabric.rows s to number row c.channel-channel.ensures from past c.args.hops.now c.requires.hops c.requires.to c.in-Some.here count (c.is_nearer.ensures.0 w.if-is_nearer.true)))
       | else-is_nearer w ↦
           rw w.ports-is
           (passed_over t c.requires.fabric.rows s to number row c.channel-channel.ensures from past c.loop-number.ports.items c.loop-number.invariant

@@ -2,7 +2,7 @@ use Rattle.std.proofs.Common.{◌≡◌, sym, subst, arith, ◌∙◌, true}
 use Rattle.std.proofs.lemmas.Bool.{true≢false}
 use Rattle.fab_hops.specs.HopCounts.{IsHopCount}
 use Rattle.fab_balance.specs.Eligible.{LeadsNearer}
-use Rattle.fab_balance.proofs.NearerPorts.{HasNoNearerBelow, counted, none_nearer, none_below, none_at_all, none_more, least_found, leads_nearer, has_fewer, tip_within}
+use Rattle.fab_balance.proofs.NearerPorts.{HasNoNearerBelow, counted, none_nearer, none_below, none_at_all, none_more, least_found, channel_leads_nearer, has_fewer, tip_within}
 use Rattle.fab_balance.proofs.nearer_ports.least_nearer_port.Goals as goal
 
 pub returns-in_err-here : goal.returns-in_err-here
@@ -32,7 +32,7 @@ returns-then-is_nearer c =
     let to = c.args.to.0 in
     let row = c.channel-channel.result in
     let count : IsHopCount t s to c.in_ok-here.here = counted t c.args.hops.now c.requires.hops s to c.requires.from c.requires.to c.in_ok-here.here (sym c.hop.ensures ∙ c.in_ok-here.was) in
-    let nearer : LeadsNearer t s to row.port = leads_nearer t c.requires.fabric.rows s to c.loop-number.number row c.channel-channel.ensures (omega (arith, c.leaves-first.ensures.first)) (omega (arith, c.leaves-first.ensures.past))
+    let nearer : LeadsNearer t s to row.port = channel_leads_nearer t c.requires.fabric.rows s to c.loop-number.number row c.channel-channel.ensures (omega (arith, c.leaves-first.ensures.first)) (omega (arith, c.leaves-first.ensures.past))
     c.args.hops.now c.requires.hops c.requires.to c.in_ok-here.here count (c.is_nearer.ensures.0 c.if-is_nearer.true) in
     least_found t c.requires.fabric.rows s to c.loop-number.number row c.channel-channel.ensures (omega (arith, c.leaves-first.ensures.first)) (omega (arith, c.leaves-first.ensures.past)) c.loop-number.invariant nearer
 
