@@ -1,5 +1,5 @@
 -- Hops without a fault, and marks of the switches from which on all hops are so.
-use Rattle.std.specs.Prelude.{◌≡◌, ℕ, zero, suc, ◌*◌, ◌<◌, List, length, Option, Some, None, IfSome, Bool, true, false, slice_get, slice_index_or}
+use Rattle.std.specs.Prelude.{◌≡◌, ℕ, zero, suc, ◌*◌, ◌<◌, List, length, drop, Option, Some, None, IfSome, Bool, true, false, slice_get, slice_index_or}
 use Rattle.fab_model.specs.Topology.{Topology}
 use Rattle.fab_tables.specs.declared.verdict.VirtualChannel.{VirtualChannel}
 use Rattle.fab_tables.specs.declared.lane_faults.LaneFaults.{LaneFaults}
@@ -30,6 +30,10 @@ AreRight faults l hops = (k : ℕ) → IsRightAt faults l hops k
 -- the hops of the route from a switch to a LID, for packets of this level that come by this port
 abbrev pub hops_from : Topology → Entries → LaneTables → ℕ → ℕ → ℕ → ℕ → List VirtualChannel
 hops_from t e l lid s port of_level = on_channels t l of_level port (route t e s lid).channels
+
+-- those behind the first; they don't depend on the port
+abbrev pub hops_behind : Topology → Entries → LaneTables → ℕ → ℕ → ℕ → List VirtualChannel
+hops_behind t e l lid s of_level = drop 1 (hops_from t e l lid s 0 of_level)
 
 -- packets of this level that come to the switch by some port meet no fault from there on
 abbrev pub IsJudgedAt : LaneFaults → Topology → Entries → LaneTables → ℕ → ℕ → ℕ → Type 0

@@ -27,7 +27,7 @@ use Rattle.fab_tables.proofs.Paths.RoutesBehind.{behind_tail, hops_dropped, chan
 use Rattle.fab_tables.proofs.Paths.Ways.{drop_step}
 use Rattle.fab_tables.proofs.Paths.HopsTaken.{leaves_low}
 use Rattle.fab_tables.proofs.Faults.HopFaults.{right_of, hop_first}
-use Rattle.fab_tables.proofs.Faults.Judged.{hops_behind, right_dropped, right_later, right_from, one_cell, hops_on, plain_right}
+use Rattle.fab_tables.proofs.Faults.Judged.{right_dropped, right_later, right_from, one_cell, hops_on, plain_right}
 
 module _ (faults : LaneFaults) (t : Topology) (e : Entries) (l : LaneTables) (lid : Lid) (start : Start) (of_level : ℕ) where
   abbrev hops : List VirtualChannel

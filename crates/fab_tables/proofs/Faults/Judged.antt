@@ -10,7 +10,7 @@ use Rattle.fab_tables.specs.Entries.{Entries, cell}
 use Rattle.fab_tables.specs.LaneTables.{LaneTables}
 use Rattle.fab_tables.specs.Route.{route}
 use Rattle.fab_tables.specs.VirtualChannels.{on_channels, arrival}
-use Rattle.fab_tables.specs.Judged.{IsRight, before_at, IsRightAt, AreRight, hops_from, IsJudgedAt, IsRoomFor, AreJudged}
+use Rattle.fab_tables.specs.Judged.{IsRight, before_at, IsRightAt, AreRight, hops_from, hops_behind, IsJudgedAt, IsRoomFor, AreJudged}
 use Rattle.fab_tables.proofs.Paths.RoutesBehind.{slice_dropped, behind_any}
 use Rattle.fab_tables.proofs.Verdicts.PlainLaws.{same_hops}
 
@@ -57,10 +57,6 @@ cleared faults t e l lid old new is room = record {
 -- a cell is that of one switch and level
 pub one_cell : (s n x m : ℕ) → n < 16 → m < 16 → cell 16 s n ≡ cell 16 x m → (s ≡ x) × (n ≡ m)
 one_cell s n x m low high e = (omega arith, omega arith)
-
--- those behind the first hop; they don't depend on the port
-abbrev pub hops_behind : Topology → Entries → LaneTables → ℕ → ℕ → ℕ → List VirtualChannel
-hops_behind t e l lid s of_level = drop 1 (hops_from t e l lid s 0 of_level)
 
 -- behind some channels the hops go on by the port by which the packets come there
 pub hops_on : (t : Topology) (l : LaneTables) (of_level n p : ℕ) (cs : List ℕ) → (q : ℕ) × (on_channels t l of_level q (drop n cs) ≡ drop n (on_channels t l of_level p cs))
