@@ -1,4 +1,3 @@
-pub mod Picks
 pub mod Examples
 pub mod Reaching
 pub mod OneTables

@@ -35,7 +35,7 @@ no_entry count lids s lid = go (index_of lid lids)
   where
     go : (place : Option ℕ) → port_in_column (no_entries count lids) s place ≡ 255
     go None = refl
-    go (Some i) = all_alike (count * length lids) 255 (cell (length lids) s i)
+    go (Some i) = grind (arith, all_alike)
 
 pub none_placed : (t : Topology) (e : Entries) → IsFabric t → e ≡ no_entries (length t.switches) (lids_of t) → HasPlaced t e 0
 none_placed t e good is = record {
@@ -78,21 +78,16 @@ module _ (t : Topology) (is : IsFabric t) (e : Entries) (count lid : ℕ) (place
               let same : among.0 ≡ count = omega (arith, more, among.1) in
               absurd (other (sym among.3 ∙ ap (λ j. slice_index (lids_of t) j) same ∙ here))
 
+      as_before : (s n : ℕ) → entry (with_entry e place.switch.0 lid place.port) s n ≡ entry e s n → (entry e s n ≡ 255) ⊎ ((p : Place) × (place_of t n ≡ Some p) × (p.switch.0 ≡ s)) →
+          (entry (with_entry e place.switch.0 lid place.port) s n ≡ 255) ⊎ ((p : Place) × (place_of t n ≡ Some p) × (p.switch.0 ≡ s))
+      as_before s n k (inl x) = inl (k ∙ x)
+      as_before s n k (inr x) = inr x
+
       others_more : (s n : ℕ) → (n ≡ lid) ⊎ (n ≢ lid) → (s ≡ place.switch.0) ⊎ (s ≢ place.switch.0) →
           (entry (with_entry e place.switch.0 lid place.port) s n ≡ 255) ⊎ ((p : Place) × (place_of t n ≡ Some p) × (p.switch.0 ≡ s))
       others_more s n (inl same) (inl own) = inr (place, ap (λ m. place_of t m) same ∙ at, sym own)
-      others_more s n (inl same) (inr other) = as_before (kept s n (λ a b. other a)) (before.others s n)
-        where
-          as_before : entry (with_entry e place.switch.0 lid place.port) s n ≡ entry e s n → (entry e s n ≡ 255) ⊎ ((p : Place) × (place_of t n ≡ Some p) × (p.switch.0 ≡ s)) →
-              (entry (with_entry e place.switch.0 lid place.port) s n ≡ 255) ⊎ ((p : Place) × (place_of t n ≡ Some p) × (p.switch.0 ≡ s))
-          as_before k (inl x) = inl (k ∙ x)
-          as_before k (inr x) = inr x
-      others_more s n (inr other) w = as_before (kept s n (λ a b. other b)) (before.others s n)
-        where
-          as_before : entry (with_entry e place.switch.0 lid place.port) s n ≡ entry e s n → (entry e s n ≡ 255) ⊎ ((p : Place) × (place_of t n ≡ Some p) × (p.switch.0 ≡ s)) →
-              (entry (with_entry e place.switch.0 lid place.port) s n ≡ 255) ⊎ ((p : Place) × (place_of t n ≡ Some p) × (p.switch.0 ≡ s))
-          as_before k (inl x) = inl (k ∙ x)
-          as_before k (inr x) = inr x
+      others_more s n (inl same) (inr other) = as_before s n (kept s n (λ a b. other a)) (before.others s n)
+      others_more s n (inr other) w = as_before s n (kept s n (λ a b. other b)) (before.others s n)
 
 -- a LID without a place would change nothing
 pub none_to_place : (t : Topology) (e : Entries) (count lid : ℕ) → HasPlaced t e count → slice_index (lids_of t) count ≡ lid → place_of t lid ≡ None → HasPlaced t e (count + 1)

@@ -15,7 +15,6 @@ use Rattle.fab_tables.proofs.Paths.FallingRoutes.{own_delivers, goes_along, conn
 use Rattle.fab_hops.specs.HopCounts.{IsHopCount}
 use Rattle.fab_hops.proofs.HopLaws.{one_hop_count, hops_small}
 use Rattle.fab_hops.proofs.HopWalks.{connected_have_count}
-
 use Rattle.fab_balance.specs.Eligible.{LeadsNearer}
 use Rattle.fab_balance.specs.Laws.{AreNearerTables, NearerRoutesAreShortest}
 
