@@ -10,6 +10,7 @@ ghost use Rattle.fab_top.specs.Usage.{usage_text};
 
 use crate::command::Command;
 use crate::commands::{certify, check, convert, generate, load, show};
+use crate::routing::{demo, route};
 use crate::fault_texts::unread_text;
 use crate::outcome::{Outcome, Stop};
 use crate::outputs::{put_answer, put_outcome};
@@ -57,6 +58,7 @@ fn obey<F: Shelf>(
 {
     match command {
         Command::Check { fabric, plan } => check(alloc, words, shelf, fabric, plan),
+        Command::Route { fabric, engine } => route(alloc, words, shelf, fabric, engine),
         Command::Certify { fabric, plan } => certify(alloc, words, shelf, fabric, plan),
         Command::Convert { fabric, plan } => convert(alloc, words, shelf, fabric, plan),
         Command::Show {
@@ -67,6 +69,7 @@ fn obey<F: Shelf>(
         } => show(alloc, words, shelf, fabric, plan, from, to),
         Command::Load { fabric, plan } => load(alloc, words, shelf, fabric, plan),
         Command::Gen { recipe } => generate(alloc, recipe),
+        Command::Demo { recipe, engine } => demo(alloc, recipe, engine),
     }
 }
 
