@@ -7,11 +7,9 @@ use Rattle.std.proofs.lemmas.Slice.Eq.{bytes_eq-Decides}
 use Rattle.std.specs.Bool.{Decides}
 use Rattle.fab_model.specs.declared.rows.Lid.{Lid}
 use Rattle.fab_model.specs.Topology.{lid_id}
-use Rattle.fab_top.specs.declared.command.Engine.{Engine}
 use Rattle.fab_top.specs.declared.command.Command.{Command}
 use Rattle.fab_top.specs.declared.command.Command.TheVariants.{Show}
-use Rattle.fab_top.specs.declared.engine_words.Asked.{Asked}
-use Rattle.fab_top.specs.Words.{texts, named, kinds, show_from_to, show_words, gen_words, engine_forms, engine_in, demo_words, command_of, commands}
+use Rattle.fab_top.specs.Words.{texts, named, kinds, show_from_to, show_words, gen_words, route_words, demo_words, command_of, commands}
 
 -- a word that a table does not begin with is looked for behind
 other_word : (b : Bool) (xs ys : List ℕ) → Decides b (xs ≡ ys) → (ys ≡ xs → ⊥) → b ≡ false
@@ -36,9 +34,10 @@ not_named (row ∷ table) word others = past_word row table word others.0 ∙ no
 pub no_such_kind : (word : List ℕ) → (word ≡ codes "ring" → ⊥) → (word ≡ codes "torus" → ⊥) → (word ≡ codes "tree" → ⊥) → (word ≡ codes "random" → ⊥) → None ≡ named kinds word
 no_such_kind word ring torus tree random = sym (not_named kinds word (ring, (torus, (tree, (random, tt)))))
 
-pub no_such_engine : (name : List ℕ) (asked : Asked) → (name ≡ codes "minhop" → ⊥) → (name ≡ codes "dor" → ⊥) → None ≡ engine_in name asked
-no_such_engine name asked minhop dor =
-    sym (ap (λ (o : Option (Asked → Option Engine)). option_and_then (λ form. form asked) o) (not_named engine_forms name (minhop, (dor, tt))))
+pub no_route : {Z : Type 0} (others : List (String Z)) → length others < 2 → None ≡ route_words (texts others)
+no_route [] short = refl
+no_route (a ∷ []) short = refl
+no_route (a ∷ b ∷ rest) short = absurd (omega (arith, short))
 
 pub no_demo : {Z : Type 0} (others : List (String Z)) → (length others ≡ 6 → ⊥) → None ≡ demo_words (texts others)
 no_demo [] other = refl

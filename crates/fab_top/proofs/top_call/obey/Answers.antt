@@ -1,4 +1,5 @@
 use Rattle.fab_top.proofs.SpelledCommands.{is_spelled}
+use Rattle.fab_top.proofs.WithoutFiles.{gen_obeyed, demo_obeyed}
 use Rattle.fab_top.proofs.top_call.obey.Goals as goal
 
 pub check-requires-clause-fabric : goal.check-requires-clause-fabric
@@ -6,6 +7,9 @@ check-requires-clause-fabric g c = (is_spelled c.args.words.now _ _ c.requires c
 
 pub check-requires-clause-plan : goal.check-requires-clause-plan
 check-requires-clause-plan g c = (is_spelled c.args.words.now _ _ c.requires c.in-Check.is).places.1.0
+
+pub route-requires : goal.route-requires
+route-requires g c = (is_spelled c.args.words.now _ _ c.requires c.in-Route.is).places.0
 
 pub certify-requires-clause-fabric : goal.certify-requires-clause-fabric
 certify-requires-clause-fabric g c = (is_spelled c.args.words.now _ _ c.requires c.in-Certify.is).places.0
@@ -33,3 +37,12 @@ load-requires-clause-plan g c = (is_spelled c.args.words.now _ _ c.requires c.in
 
 pub generate-requires : goal.generate-requires
 generate-requires g c = (is_spelled c.args.words.now _ _ c.requires c.in-Gen.is).recipe.fits
+
+pub demo-requires : goal.demo-requires
+demo-requires g c = (is_spelled c.args.words.now _ _ c.requires c.in-Demo.is).recipe.fits
+
+pub returns-in-Gen : goal.returns-in-Gen
+returns-in-Gen g c = gen_obeyed c.args.command c.in-Gen.recipe _ _ _ _ c.in-Gen.is c.generate.ensures
+
+pub returns-in-Demo : goal.returns-in-Demo
+returns-in-Demo g c = demo_obeyed c.args.command c.in-Demo.recipe c.in-Demo.engine _ _ _ _ c.in-Demo.is c.demo.ensures
