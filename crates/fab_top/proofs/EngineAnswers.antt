@@ -22,14 +22,14 @@ use Rattle.fab_top.specs.declared.outcome.Stop.TheVariants.{Refused, Unread, Mem
 use Rattle.fab_top.specs.Answer.{Answer, done, no, refused}
 use Rattle.fab_top.specs.Answers.{AfterEngine, IsPlanText, IsSummary, IsRouteAnswer, IsDemoAnswer}
 use Rattle.fab_top.specs.Engines.{Lays, RefusesWith}
-use Rattle.fab_top.specs.Headline.{Done, IsGood, IsReadAgain, RoutesTruly, IsShownOff, ShowsOff, ok_text}
+use Rattle.fab_top.specs.Headline.{Done, IsGood, RoutesTruly, ShowsOff, ok_text}
 use Rattle.fab_top.specs.Outcomes.{IsRightOutcome, FindsRightly, LaysRightly, CanBePut, answer_of}
 use Rattle.fab_top.specs.ReportTexts.{summary_text}
 use Rattle.fab_top.specs.Texts.{verdict_text}
 use Rattle.fab_top.proofs.AfterFiles.{HasRightAnswer}
 use Rattle.fab_top.proofs.Certifying.{plan_keeps, plan_is_small}
 use Rattle.fab_top.proofs.Concluding.{found_at_most_1}
-use Rattle.fab_top.proofs.EnginePlans.{laid_in_order, one_laid, one_refusal, lays_or_refuses, refusal_status, engine_answers}
+use Rattle.fab_top.proofs.EnginePlans.{laid_in_order, one_laid, one_refusal, lays_or_refuses, refusal_is, engine_answers}
 use Rattle.fab_top.proofs.Generating.{done_is_small}
 use Rattle.fab_top.proofs.Judging.{true_verdict}
 
@@ -50,7 +50,7 @@ one_after engine rest t a b fabric one (inr x) (inr y) = one_refusal t engine a 
 
 small_after : (engine : Engine) (rest : Topology → Plan → Answer → Type 0) (t : Topology) (a : Answer) → ((p : Plan) → rest t p a → a.status ≤ 1) → AfterEngine engine rest t a → a.status ≤ 3
 small_after engine rest t a small (inl x) = at_most_3 a.status (small x.0 x.2)
-small_after engine rest t a small (inr x) = (refusal_status t engine a x).0.0
+small_after engine rest t a small (inr x) = (refusal_is t engine a x).status.0
 
 exists_after : (engine : Engine) (rest : Topology → Plan → Answer → Type 0) (t : Topology) → IsFabric t → ((p : Plan) → HasRightAnswer (rest t p)) → HasRightAnswer (AfterEngine engine rest t)
 exists_after engine rest t fabric exists = by (engine_answers t engine fabric)
@@ -74,7 +74,7 @@ module _ (t : Topology) (engine : Engine) (A H : Answer → Type 0) (right : (a 
   no_found answer reason outcome is lays told put =
       let refuses : RefusesWith t engine (answer_of outcome) = subst (λ a. RefusesWith t engine a) (sym told) (no_is_refusal t engine answer reason is lays) in
       let both = right (answer_of outcome) refuses in
-      record { is = both.0; headline = both.1; status = (refusal_status t engine (answer_of outcome) refuses).0; can_be_put = put }
+      record { is = both.0; headline = both.1; status = (refusal_is t engine (answer_of outcome) refuses).status; can_be_put = put }
 
   stops_there : (stop : Stop) → LaysRightly t engine (Err stop) → FindsRightly A H (Err stop)
   stops_there (Refused text) lays = let both = right (refused text.items) lays in record { is = both.0; headline = both.1 }
@@ -94,8 +94,10 @@ pub route_keeps : (engine : Engine) (t : Topology) (a : Answer) → IsFabric t �
 route_keeps engine t a fabric (inl x) =
     let order = laid_in_order t engine x.0 fabric x.1 in
     let again = plan_keeps t x.0 a fabric order.fits order.tidy x.2 in
-    record { done = inl again.0; laid = λ is. (x.0, x.1, order.good, again.1) }
-route_keeps engine t a fabric (inr x) = record { done = inr x; laid = λ is. absurd ((refusal_status t engine a x).1 is) }
+    record { done = inl again.0; nothing = λ other. absurd (other again.0); laid = λ is. (x.0, x.1, order.good, again.1) }
+route_keeps engine t a fabric (inr x) =
+    let refusal = refusal_is t engine a x in
+    record { done = inr x; nothing = λ other. refusal.nothing; laid = λ is. absurd (refusal.not_done is) }
 
 pub route_is_small : (engine : Engine) (t : Topology) (a : Answer) → IsRouteAnswer engine t a → a.status ≤ 3
 route_is_small engine t a is = small_after engine IsPlanText t a (λ p x. plan_is_small t p a x) is
@@ -147,8 +149,11 @@ demo_keeps engine t a fabric (inl x) =
     let good : IsGood t x.0 = (laid_in_order t engine x.0 fabric x.1).good in
     let counts : List ℕ = summary_text (summary_of t x.0) in
     let text : a.out ≡ counts ++ ok_text x.0.lanes = ap (λ (b : Answer). b.out) x.2.2 ∙ ap (λ (line : List ℕ). counts ++ line) (good_verdict t x.0 x.2.0 fabric x.2.1 good) in
-    record { done = inl (ap (λ (b : Answer). b.status) x.2.2); shown = λ is. (x.0, x.1, good, text) }
-demo_keeps engine t a fabric (inr x) = record { done = inr x; shown = λ is. absurd ((refusal_status t engine a x).1 is) }
+    let is_done : Done a = ap (λ (b : Answer). b.status) x.2.2 in
+    record { done = inl is_done; nothing = λ other. absurd (other is_done); shown = λ is. (x.0, x.1, good, text) }
+demo_keeps engine t a fabric (inr x) =
+    let refusal = refusal_is t engine a x in
+    record { done = inr x; nothing = λ other. refusal.nothing; shown = λ is. absurd (refusal.not_done is) }
 
 pub demo_is_small : (engine : Engine) (t : Topology) (a : Answer) → IsDemoAnswer engine t a → a.status ≤ 3
 demo_is_small engine t a is = small_after engine IsSummary t a (λ p x. summary_is_small t p a x) is

@@ -1,5 +1,5 @@
 -- What holds of each engine: its plan for a fabric is in order, there is one such plan, or else one refusal.
-use Rattle.std.proofs.Common.{◌≡◌, ℕ, ◌≤◌, ◌⊎◌, inl, inr, Option, None, Some, refl, sym, ◌∙◌, ap, subst, IfSome}
+use Rattle.std.proofs.Common.{◌≡◌, ℕ, ◌⊎◌, inl, [], Option, None, refl, sym, ◌∙◌, ap, subst, IfSome}
 use Rattle.std.specs.Prelude.{IsFalse}
 use Rattle.fab_model.specs.Topology.{Topology, is_source}
 use Rattle.fab_model.specs.WellFormed.{IsFabric}
@@ -71,10 +71,15 @@ pub lays_or_refuses : (t : Topology) (engine : Engine) (p : Plan) (a : Answer) �
 lays_or_refuses t MinHop p a fabric laid refuses = absurd refuses
 lays_or_refuses t Dor p a fabric laid refuses = absurd refuses
 
--- a refusal is no success, and its status is small
-pub refusal_status : (t : Topology) (engine : Engine) (a : Answer) → RefusesWith t engine a → IsFound a.status × (¬ Done a)
-refusal_status t MinHop a refuses = absurd refuses
-refusal_status t Dor a refuses = absurd refuses
+-- what each refusal is
+pub record IsRefusal (a : Answer) : Type 0 where
+  pub status : IsFound a.status
+  pub not_done : ¬ Done a
+  pub nothing : a.out ≡ []
+
+pub refusal_is : (t : Topology) (engine : Engine) (a : Answer) → RefusesWith t engine a → IsRefusal a
+refusal_is t MinHop a refuses = absurd refuses
+refusal_is t Dor a refuses = absurd refuses
 
 pub engine_answers : (t : Topology) (engine : Engine) → IsFabric t → ((p : Plan) × Lays t engine p) ⊎ ((a : Answer) × RefusesWith t engine a)
 unfolding plan_of

@@ -10,7 +10,7 @@ use Rattle.fab_report.specs.Laws.{HasSeed}
 use Rattle.fab_report.specs.Recipes.{fits}
 use Rattle.fab_top.specs.declared.command.Engine.{Engine}
 use Rattle.fab_top.specs.declared.command.Command.{Command}
-use Rattle.fab_top.specs.declared.command.Command.TheVariants.{Check, Route, Certify, Convert, Show, Load, Gen, Demo}
+use Rattle.fab_top.specs.declared.command.Command.TheVariants.{Check, Route, Certify, Convert, Load, Gen, Demo}
 use Rattle.fab_top.specs.Ran.{files_of}
 use Rattle.fab_top.specs.Words.{texts, is_file, named, number_in, kinds, two_files, recipe_of, recipe_in, lid_in, show_from_to, show_words, gen_words, engine_in, asked_behind, asked_by, route_words, demo_words, commands, command_of}
 use Rattle.fab_top.proofs.WordNumbers.{number_is_low}

@@ -1,6 +1,6 @@
 -- Every fabric has a Min Hop table and a DOR table. A table is made LID by LID, the ports of a LID from those of the smaller ones.
-use Rattle.std.proofs.Common.{◌≡◌, ◌≢◌, ℕ, zero, suc, ◌+◌, ◌*◌, ◌/◌, ◌%◌, ◌<◌, ◌≤◌, ◌⊎◌, inl, inr, Bool, true, false, cond, List, [], ◌∷◌, length, map, Option, Some, None, refl, sym, ◌∙◌, ap, subst, arith, Contains}
-use Rattle.std.specs.Prelude.{All, slice_get, slice_index_or, position, find, option_map, count_by, nat_lt, unwrap_or, ◌&&◌, ◌==◌}
+use Rattle.std.proofs.Common.{◌≡◌, ◌≢◌, ℕ, zero, suc, ◌*◌, ◌/◌, ◌%◌, ◌<◌, ◌≤◌, inl, inr, Bool, true, false, cond, List, [], ◌∷◌, length, map, Option, Some, None, refl, sym, ◌∙◌, ap, subst, arith, Contains}
+use Rattle.std.specs.Prelude.{slice_get, slice_index_or, position, find, option_map, count_by, nat_lt, unwrap_or, ◌&&◌, ◌==◌}
 use Rattle.std.specs.List.{range_with_len}
 use Rattle.std.specs.Option.{option_or}
 use Rattle.std.proofs.Math.Path.{fun_ext}
@@ -23,7 +23,7 @@ use Rattle.fab_model.specs.WellFormed.{IsWellFormed, IsFabric}
 use Rattle.fab_model.proofs.Finds.{channels_are_found}
 use Rattle.fab_tables.specs.Entries.{Entries, index_of, cell, port_in_column, entry}
 use Rattle.fab_tables.specs.Fit.{EntriesFit}
-use Rattle.fab_tables.specs.FixedEntries.{HasFixedEntries, IsChosen, HasChosenEntries}
+use Rattle.fab_tables.specs.FixedEntries.{HasFixedEntries, IsChosen}
 use Rattle.fab_tables.specs.Route.{tip, tip_of_row}
 use Rattle.fab_tables.proofs.Joined.Ascending.{lids_ascend, lids_fit}
 use Rattle.fab_tables.proofs.Joined.ConnectedDecided.{connected_decided, connected_to_decided}
@@ -34,7 +34,6 @@ use Rattle.fab_hops.specs.HopCounts.{IsHopCount}
 use Rattle.fab_hops.proofs.HopLaws.{one_hop_count}
 use Rattle.fab_hops.proofs.HopWalks.{connected_have_count}
 use Rattle.fab_balance.specs.Eligible.{LeadsNearer}
-use Rattle.fab_balance.specs.Loads.{load_of, IsBalancedChoice}
 use Rattle.fab_balance.specs.MinHop.{AreMinHopTables, AreDorTables}
 
 -- ---- tables of given ports, by switch and LID

@@ -1,5 +1,5 @@
 -- What the program promises of its answers.
-use Rattle.std.specs.Prelude.{◌≡◌, ◌↔◌, ◌⊎◌, ℕ, ◌≤◌, List, ◌++◌, length, Option, None, Some, Ok, MatchOption}
+use Rattle.std.specs.Prelude.{◌≡◌, ◌↔◌, ◌⊎◌, ℕ, ◌≤◌, List, [], ◌++◌, length, Option, None, Some, Ok, MatchOption}
 use Rattle.fab_graph.specs.Walks.{IsAcyclic, Rises}
 use Rattle.fab_model.specs.declared.rows.Place.{Place}
 use Rattle.fab_model.specs.Topology.{Topology}
@@ -107,9 +107,10 @@ IsGood t p = ((p.lanes ≡ None) × Reaches t p.tables) ⊎ IsCertified t p
 abbrev pub IsLaidAgain : Engine → Topology → List ℕ → Type 0
 IsLaidAgain engine t text = (p : Plan) × Lays t engine p × IsGood t p × IsReadAgain t p text
 
--- a good plan of the engine is written, or else its rule refuses the fabric
+-- a good plan of the engine is written, or else its rule refuses the fabric, and nothing is
 pub record RoutesTruly (engine : Engine) (t : Topology) (answer : Answer) : Type 0 where
   pub done : Done answer ⊎ RefusesWith t engine answer
+  pub nothing : ¬ Done answer → answer.out ≡ []
   pub laid : Done answer → IsLaidAgain engine t answer.out
 
 -- the text of the verdict on a good plan
@@ -121,8 +122,10 @@ ok_text (Some l) = ok_lanes
 abbrev pub IsShownOff : Engine → Topology → List ℕ → Type 0
 IsShownOff engine t text = (p : Plan) × Lays t engine p × IsGood t p × (text ≡ summary_text (summary_of t p) ++ ok_text p.lanes)
 
+-- the counts of a good plan are told, or else the engine's rule refuses the fabric, and nothing is
 pub record ShowsOff (engine : Engine) (t : Topology) (answer : Answer) : Type 0 where
   pub done : Done answer ⊎ RefusesWith t engine answer
+  pub nothing : ¬ Done answer → answer.out ≡ []
   pub shown : Done answer → IsShownOff engine t answer.out
 
 -- by command

@@ -76,7 +76,11 @@ pub(crate) fn summary_text(alloc: Global, row: &SummaryRow) -> Result<Vec<u8>, A
     push_count(&mut text, b"lids", u64::from(row.lids))?;
     push_count(&mut text, b"lanes", u64::from(row.lanes))?;
     push_count(&mut text, b"numbers", u64::from(row.numbers))?;
-    push_count(&mut text, b"greatest number", u64::from(row.greatest_number))?;
+    push_count(
+        &mut text,
+        b"greatest number",
+        u64::from(row.greatest_number),
+    )?;
     push_count(&mut text, b"hops", row.hops)?;
     push_count(&mut text, b"greatest load", row.greatest_load)?;
     Ok(text)

@@ -10,10 +10,10 @@ ghost use Rattle.fab_top.specs.Usage.{usage_text};
 
 use crate::command::Command;
 use crate::commands::{certify, check, convert, generate, load, show};
-use crate::routing::{demo, route};
 use crate::fault_texts::unread_text;
 use crate::outcome::{Outcome, Stop};
 use crate::outputs::{put_answer, put_outcome};
+use crate::routing::{demo, route};
 use crate::words::{WordsFault, read_words};
 use fab_io::{PutFault, Shelf, Sink};
 use std::alloc::Global;
