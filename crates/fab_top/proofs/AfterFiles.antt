@@ -1,17 +1,17 @@
--- The answer after one file, a fabric or a plan of it: what is said of what is read is said after the file.
+-- The answer after one file, a fabric, a plan of it, or a list of failed cables: what is said of what is read is said after the file.
 --     weaker     a weaker fact of the answer
 --     one        one answer
 --     small      a small status
 --     exists     an answer
 use Rattle.std.proofs.Common.{◌≡◌, ℕ, ◌≤◌, List, Result, Ok, Err, refl, sym, subst, ◌∙◌, arith}
-use Rattle.fab_model.specs.Topology.{Topology}
+use Rattle.fab_model.specs.Topology.{Topology, HasNoOwnCable}
 use Rattle.fab_model.specs.WellFormed.{IsFabric}
 use Rattle.fab_tables.specs.declared.plan.Plan.{Plan}
 use Rattle.fab_tables.specs.Fit.{PlanFits, IsTidy}
 use Rattle.fab_top.specs.Answer.{Answer, refused, unread}
-use Rattle.fab_top.specs.Files.{fabric_in, plan_in}
-use Rattle.fab_top.specs.Seen.{Seen, Content, After, AfterFile, WithFabric, WithPlan, word_at}
-use Rattle.fab_top.proofs.ReadFits.{fabric_fits, plan_fits}
+use Rattle.fab_top.specs.Files.{fabric_in, plan_in, failed_in, without_failed}
+use Rattle.fab_top.specs.Seen.{Seen, Content, After, AfterFile, WithFabric, WithPlan, WithoutFailed, word_at}
+use Rattle.fab_top.proofs.ReadFits.{fabric_fits, fabric_has_no_own_cable, left_fits, left_has_no_own_cable, plan_fits}
 
 -- the content is told
 abbrev pub IsTold : Content → Type 0
@@ -83,6 +83,47 @@ fabric_small w place rest a told small is = file_small (word_at w.words place) (
 pub fabric_exists : (w : Seen) (place : ℕ) (rest : Topology → Answer → Type 0) → IsTold (w.content place) → ((t : Topology) → IsFabric t → HasRightAnswer (rest t)) → HasRightAnswer (WithFabric w place rest)
 fabric_exists w place rest told exists =
     file_exists (word_at w.words place) (w.content place) fabric_in rest told (λ bytes t read. exists t (fabric_fits (word_at w.words place) bytes t read))
+
+-- ---- a fabric without failed cables
+
+-- what is known of a fabric that was read, and of what failed cables leave of one
+pub record IsReadFabric (t : Topology) : Type 0 where
+  pub fabric : IsFabric t
+  pub no_own_cable : HasNoOwnCable t
+
+pub read_weaker : (w : Seen) (place : ℕ) (rest other : Topology → Answer → Type 0) (a : Answer) → ((t : Topology) → IsReadFabric t → rest t a → other t a) → WithFabric w place rest a → WithFabric w place other a
+read_weaker w place rest other a weaker is =
+    let name : List ℕ = word_at w.words place in
+    file_weaker name (w.content place) fabric_in rest other a
+    (λ bytes t read. weaker t (record { fabric = fabric_fits name bytes t read; no_own_cable = fabric_has_no_own_cable name bytes t read })) is
+
+pub without_weaker : (w : Seen) (t : Topology) (place : ℕ) (rest other : Topology → Answer → Type 0) (a : Answer) → IsReadFabric t → ((left : Topology) → IsReadFabric left → rest left a → other left a) →
+    WithoutFailed w t place rest a → WithoutFailed w t place other a
+without_weaker w t place rest other a of weaker is =
+    let name : List ℕ = word_at w.words place in
+    file_weaker name (w.content place) failed_in (λ cables. After (without_failed name t cables) rest) (λ cables. After (without_failed name t cables) other) a
+    (λ bytes cables read. after_weaker (without_failed name t cables) rest other a
+    (λ left known. weaker left (record { fabric = left_fits name t left cables of.fabric known; no_own_cable = left_has_no_own_cable name t left cables of.no_own_cable known }))) is
+
+pub without_one : (w : Seen) (t : Topology) (place : ℕ) (rest : Topology → Answer → Type 0) (a b : Answer) → IsFabric t → IsTold (w.content place) → ((left : Topology) → IsFabric left → rest left a → rest left b → a ≡ b) →
+    WithoutFailed w t place rest a → WithoutFailed w t place rest b → a ≡ b
+without_one w t place rest a b fabric told one first second =
+    let name : List ℕ = word_at w.words place in
+    file_one name (w.content place) failed_in (λ cables. After (without_failed name t cables) rest) a b told
+    (λ bytes cables read. after_one (without_failed name t cables) rest a b (λ left known. one left (left_fits name t left cables fabric known))) first second
+
+pub without_small : (w : Seen) (t : Topology) (place : ℕ) (rest : Topology → Answer → Type 0) (a : Answer) → IsTold (w.content place) → ((left : Topology) → rest left a → a.status ≤ 3) →
+    WithoutFailed w t place rest a → a.status ≤ 3
+without_small w t place rest a told small is =
+    let name : List ℕ = word_at w.words place in
+    file_small name (w.content place) failed_in (λ cables. After (without_failed name t cables) rest) a told (λ cables. after_small (without_failed name t cables) rest a small) is
+
+pub without_exists : (w : Seen) (t : Topology) (place : ℕ) (rest : Topology → Answer → Type 0) → IsFabric t → IsTold (w.content place) → ((left : Topology) → IsFabric left → HasRightAnswer (rest left)) →
+    HasRightAnswer (WithoutFailed w t place rest)
+without_exists w t place rest fabric told exists =
+    let name : List ℕ = word_at w.words place in
+    file_exists name (w.content place) failed_in (λ cables. After (without_failed name t cables) rest) told
+    (λ bytes cables read. after_exists (without_failed name t cables) rest (λ left known. exists left (left_fits name t left cables fabric known)))
 
 -- ---- a plan of a fabric
 

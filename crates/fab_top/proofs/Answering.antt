@@ -18,7 +18,7 @@ use Rattle.fab_netdiscover.specs.Writing.{text_of}
 use Rattle.fab_report.specs.Loads.{loads_of}
 use Rattle.fab_report.specs.Recipes.{generated}
 use Rattle.fab_top.specs.declared.command.Command.{Command}
-use Rattle.fab_top.specs.declared.command.Command.TheVariants.{Check, Route, Certify, Convert, Show, Load, Gen, Demo}
+use Rattle.fab_top.specs.declared.command.Command.TheVariants.{Check, Route, Certify, Convert, Cut, Show, Load, Gen, Demo}
 use Rattle.fab_top.specs.Answer.{Answer, done}
 use Rattle.fab_top.specs.Answers.{IsAnswerTo, IsCheckAnswer, IsRouteAnswer, IsCertifyAnswer, IsPlanText, IsShowAnswer, IsLoadAnswer, verdict_answer, certified_answer, usage}
 use Rattle.fab_top.specs.Headline.{KeepsHeadlineOf, ChecksTruly, RoutesTruly, CertifiesTruly, ConvertsTruly, ShowsTruly, IsDone}
@@ -29,6 +29,7 @@ use Rattle.fab_top.specs.Seen.{Seen, WithPlan, WithBoth}
 use Rattle.fab_top.specs.Words.{command_of}
 use Rattle.fab_top.proofs.AfterFiles.{IsTold, HasRightAnswer, IsReadPlan, fabric_weaker, fabric_one, fabric_small, fabric_exists, plan_weaker, plan_one, plan_small, plan_exists}
 use Rattle.fab_top.proofs.Certifying.{certificate_keeps, certificate_is_small, plan_keeps, plan_is_small}
+use Rattle.fab_top.proofs.Cutting.{cut_keeps, one_cut, cut_is_small, cut_exists}
 use Rattle.fab_top.proofs.Generating.{done_is_small, fitting_is_fabric, generates_truly}
 use Rattle.fab_top.proofs.Judging.{true_verdict, verdict_keeps, verdict_is_small}
 use Rattle.fab_top.proofs.Loading.{load_keeps}
@@ -115,6 +116,8 @@ one_answer_to w (Some (Certify fabric plan)) a b fitting told first second =
     both_one w fabric plan IsCertifyAnswer a b told (λ t p read x y. one_certified t p a b read.fits x y) first second
 one_answer_to w (Some (Convert fabric plan)) a b fitting told first second =
     both_one w fabric plan IsPlanText a b told (λ t p read x y. x ∙ sym y) first second
+one_answer_to w (Some (Cut fabric failed)) a b fitting told first second =
+    one_cut w fabric failed (first_told w fabric (failed ∷ []) told) (second_told w fabric failed [] told) a b first second
 one_answer_to w (Some (Show fabric plan from to)) a b fitting told first second =
     both_one w fabric plan (IsShowAnswer from.0 to.0) a b told (λ t p read x y. one_show t p from.0 to.0 a b x y) first second
 one_answer_to w (Some (Load fabric plan)) a b fitting told first second =
@@ -142,6 +145,7 @@ keeps_by w (Some (Check fabric plan)) a fitting is = both_weaker w fabric plan I
 keeps_by w (Some (Route fabric engine)) a fitting is = fabric_weaker w fabric (IsRouteAnswer engine) (RoutesTruly engine) a (λ t made x. route_keeps engine t a made x) is
 keeps_by w (Some (Certify fabric plan)) a fitting is = both_weaker w fabric plan IsCertifyAnswer CertifiesTruly a (λ t p read x. certify_keeps t p a read x) is
 keeps_by w (Some (Convert fabric plan)) a fitting is = both_weaker w fabric plan IsPlanText ConvertsTruly a (λ t p read x. convert_keeps t p a read x) is
+keeps_by w (Some (Cut fabric failed)) a fitting is = cut_keeps w fabric failed a is
 keeps_by w (Some (Show fabric plan from to)) a fitting is = both_weaker w fabric plan (IsShowAnswer from.0 to.0) (ShowsTruly from.0 to.0) a (λ t p read x. show_keeps t p from.0 to.0 a x) is
 keeps_by w (Some (Load fabric plan)) a fitting is = both_weaker w fabric plan IsLoadAnswer IsDone a (λ t p read x. load_keeps t p a x) is
 keeps_by w (Some (Gen recipe)) a fitting is = generates_truly recipe a fitting is
@@ -165,6 +169,8 @@ small_by w (Some (Certify fabric plan)) a told is =
     both_small w fabric plan IsCertifyAnswer a told (λ t p x. certificate_is_small t p x.0 a x.2) is
 small_by w (Some (Convert fabric plan)) a told is =
     both_small w fabric plan IsPlanText a told (λ t p x. plan_is_small t p a x) is
+small_by w (Some (Cut fabric failed)) a told is =
+    cut_is_small w fabric failed (first_told w fabric (failed ∷ []) told) (second_told w fabric failed [] told) a is
 small_by w (Some (Show fabric plan from to)) a told is =
     both_at_most_3 w fabric plan (IsShowAnswer from.0 to.0) a told (λ t p x. show_is_small t p from.0 to.0 a x) is
 small_by w (Some (Load fabric plan)) a told is =
@@ -190,6 +196,7 @@ exists_by w (Some (Check fabric plan)) fitting told = both_exist w fabric plan I
 exists_by w (Some (Route fabric engine)) fitting told = fabric_exists w fabric (IsRouteAnswer engine) (first_told w fabric [] told) (λ t made. route_exists engine t made)
 exists_by w (Some (Certify fabric plan)) fitting told = both_exist w fabric plan IsCertifyAnswer told exists_certify
 exists_by w (Some (Convert fabric plan)) fitting told = both_exist w fabric plan IsPlanText told (λ t p read. (done (plan_text t p), refl))
+exists_by w (Some (Cut fabric failed)) fitting told = cut_exists w fabric failed (first_told w fabric (failed ∷ []) told) (second_told w fabric failed [] told)
 exists_by w (Some (Show fabric plan from to)) fitting told = both_exist w fabric plan (IsShowAnswer from.0 to.0) told (λ t p read. show_exists t p from.0 to.0)
 exists_by w (Some (Load fabric plan)) fitting told = both_exist w fabric plan IsLoadAnswer told (λ t p read. (done (load_text t (loads_of t p.tables)), refl))
 exists_by w (Some (Gen recipe)) fitting told = (done (text_of (generated recipe)), refl)

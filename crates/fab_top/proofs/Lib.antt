@@ -8,15 +8,17 @@ pub mod Running
 pub mod Judging
 pub mod Taking
 pub mod Certifying
-pub mod WordNumbers
+pub mod LowNumbers
 pub mod Wording
 pub mod SpelledCommands
 pub mod ReadFits
 pub mod AfterFiles
 pub mod Generating
+pub mod Cutting
 pub mod Loading
 pub mod Showing
 pub mod TablesExist
 pub mod EnginePlans
 pub mod EngineAnswers
 pub mod Answering
+mod Examples

@@ -10,10 +10,10 @@ use Rattle.fab_report.specs.Laws.{HasSeed}
 use Rattle.fab_report.specs.Recipes.{fits}
 use Rattle.fab_top.specs.declared.command.Engine.{Engine}
 use Rattle.fab_top.specs.declared.command.Command.{Command}
-use Rattle.fab_top.specs.declared.command.Command.TheVariants.{Check, Route, Certify, Convert, Load, Gen, Demo}
+use Rattle.fab_top.specs.declared.command.Command.TheVariants.{Check, Route, Certify, Convert, Cut, Load, Gen, Demo}
 use Rattle.fab_top.specs.Ran.{files_of}
 use Rattle.fab_top.specs.Words.{texts, is_file, named, number_in, kinds, two_files, recipe_of, recipe_in, lid_in, show_from_to, show_words, gen_words, engine_in, asked_behind, asked_by, route_words, demo_words, commands, command_of}
-use Rattle.fab_top.proofs.WordNumbers.{number_is_low}
+use Rattle.fab_top.proofs.LowNumbers.{number_is_low}
 
 -- each place is below a number
 abbrev pub AllBelow : ℕ → List ℕ → Type 0
@@ -174,10 +174,13 @@ all_right = (
       (
         two_within (λ f p. Convert f p) (record { places = both_places; recipe = tt }),
         (
-          show_within,
+          two_within (λ f x. Cut f x) (record { places = both_places; recipe = tt }),
           (
-            two_within (λ f p. Load f p) (record { places = both_places; recipe = tt }),
-            (gen_within, (demo_within, tt)),
+            show_within,
+            (
+              two_within (λ f p. Load f p) (record { places = both_places; recipe = tt }),
+              (gen_within, (demo_within, tt)),
+            ),
           ),
         ),
       ),

@@ -76,10 +76,10 @@ no_show (a ∷ b ∷ c ∷ d ∷ []) other = absurd (other (omega arith))
 no_show (a ∷ b ∷ c ∷ d ∷ x ∷ rest) other = refl
 
 pub no_such_command : {Z : Type 0} (words : List (String Z)) (name : String Z) → 0 < length words → name ≡ slice_index_or words 0 name →
-    (string_bytes name ≡ codes "check" → ⊥) → (string_bytes name ≡ codes "route" → ⊥) → (string_bytes name ≡ codes "certify" → ⊥) → (string_bytes name ≡ codes "convert" → ⊥) → (string_bytes name ≡ codes "show" → ⊥) → (string_bytes name ≡ codes "load" → ⊥) →
+    (string_bytes name ≡ codes "check" → ⊥) → (string_bytes name ≡ codes "route" → ⊥) → (string_bytes name ≡ codes "certify" → ⊥) → (string_bytes name ≡ codes "convert" → ⊥) → (string_bytes name ≡ codes "cut" → ⊥) → (string_bytes name ≡ codes "show" → ⊥) → (string_bytes name ≡ codes "load" → ⊥) →
     (string_bytes name ≡ codes "gen" → ⊥) → (string_bytes name ≡ codes "demo" → ⊥) → None ≡ command_of (texts words)
-no_such_command [] name some is check route certify convert show load gen demo = absurd (omega (arith, some))
-no_such_command {Z} (word ∷ others) name some is check route certify convert show load gen demo =
+no_such_command [] name some is check route certify convert cut show load gen demo = absurd (omega (arith, some))
+no_such_command {Z} (word ∷ others) name some is check route certify convert cut show load gen demo =
     let P : String Z → Type 0 = λ w. None ≡ command_of (texts (w ∷ others)) in
     subst P is (sym (ap (λ (o : Option (List (List ℕ) → Option Command)). option_and_then (λ form. form (texts others)) o)
-    (not_named commands (string_bytes name) (check, (route, (certify, (convert, (show, (load, (gen, (demo, tt)))))))))))
+    (not_named commands (string_bytes name) (check, (route, (certify, (convert, (cut, (show, (load, (gen, (demo, tt))))))))))))

@@ -21,7 +21,7 @@ use Rattle.fab_report.specs.Recipes.{generated}
 use Rattle.fab_report.specs.Summary.{summary_of}
 use Rattle.fab_top.specs.declared.command.Engine.{Engine}
 use Rattle.fab_top.specs.declared.command.Command.{Command}
-use Rattle.fab_top.specs.declared.command.Command.TheVariants.{Check, Route, Certify, Convert, Show, Load, Gen, Demo}
+use Rattle.fab_top.specs.declared.command.Command.TheVariants.{Check, Route, Certify, Convert, Cut, Show, Load, Gen, Demo}
 use Rattle.fab_top.specs.Words.{command_of}
 use Rattle.fab_top.specs.Usage.{usage_text}
 use Rattle.fab_top.specs.Answer.{Answer, done, no}
@@ -29,7 +29,7 @@ use Rattle.fab_top.specs.Texts.{verdict_text, ring_text, from_text, end_text}
 use Rattle.fab_top.specs.Engines.{Lays, RefusesWith}
 use Rattle.fab_top.specs.Files.{known_place}
 use Rattle.fab_top.specs.ReportTexts.{load_text, summary_text}
-use Rattle.fab_top.specs.Seen.{Seen, After, WithFabric, WithBoth}
+use Rattle.fab_top.specs.Seen.{Seen, After, WithFabric, WithBoth, WithoutFailed}
 
 -- ---- check
 
@@ -84,7 +84,7 @@ IsShowAnswer from to t p answer = After (known_place t from) (λ place. After (k
 abbrev pub IsLoadAnswer : Topology → Plan → Answer → Type 0
 IsLoadAnswer t p answer = answer ≡ done (load_text t (loads_of t p.tables))
 
--- ---- gen
+-- ---- cut and gen
 
 abbrev pub IsFabricText : Topology → Answer → Type 0
 IsFabricText t answer = answer ≡ done (text_of t)
@@ -112,6 +112,7 @@ IsAnswerTo w (Check fabric plan) answer = WithBoth w fabric plan IsCheckAnswer a
 IsAnswerTo w (Route fabric engine) answer = WithFabric w fabric (IsRouteAnswer engine) answer
 IsAnswerTo w (Certify fabric plan) answer = WithBoth w fabric plan IsCertifyAnswer answer
 IsAnswerTo w (Convert fabric plan) answer = WithBoth w fabric plan IsPlanText answer
+IsAnswerTo w (Cut fabric failed) answer = WithFabric w fabric (λ t. WithoutFailed w t failed IsFabricText) answer
 IsAnswerTo w (Show fabric plan from to) answer = WithBoth w fabric plan (IsShowAnswer from.0 to.0) answer
 IsAnswerTo w (Load fabric plan) answer = WithBoth w fabric plan IsLoadAnswer answer
 IsAnswerTo w (Gen recipe) answer = IsFabricText (generated recipe) answer

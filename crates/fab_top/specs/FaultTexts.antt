@@ -1,7 +1,9 @@
 -- The texts of what is wrong with a file, or with what was named.
-use Rattle.std.specs.Prelude.{ℕ, List, [], ◌++◌, codes, decimal}
+use Rattle.std.specs.Prelude.{ℕ, ◌+◌, List, [], ◌++◌, codes, decimal}
 use Rattle.fab_model.specs.declared.fault.FabricFault.{FabricFault}
 use Rattle.fab_model.specs.declared.fault.FabricFault.TheVariants as build
+use Rattle.fab_model.specs.declared.fault.WithoutFault.{WithoutFault}
+use Rattle.fab_model.specs.declared.fault.WithoutFault.TheVariants as lost
 use Rattle.fab_netdiscover.specs.declared.fault.ReadFault.{ReadFault}
 use Rattle.fab_netdiscover.specs.declared.fault.ReadFault.TheVariants as read
 use Rattle.fab_netdiscover.specs.declared.fault.BadKind.{BadKind}
@@ -9,6 +11,8 @@ use Rattle.fab_netdiscover.specs.declared.fault.BadKind.TheVariants as bad
 use Rattle.fab_dump.specs.declared.fault.PlanFault.{PlanFault}
 use Rattle.fab_dump.specs.Writing.{hex4}
 use Rattle.fab_dump.specs.declared.fault.PlanFault.TheVariants as plan
+use Rattle.fab_repair.specs.declared.fault.FailedFault.{FailedFault}
+use Rattle.fab_repair.specs.declared.fault.FailedFault.TheVariants as failed
 
 -- behind the file's name, and behind its name and a line
 abbrev pub in_file : List ℕ → List ℕ → List ℕ
@@ -61,6 +65,19 @@ plan_fault_text name (plan.TooManyPairs line) = on_line name line (codes "too ma
 plan_fault_text name plan.NoEnd = in_file name (codes "no end")
 plan_fault_text name (plan.Memory refused) = []
 
--- what was named and isn't in the fabric
+abbrev pub failed_fault_text : List ℕ → FailedFault → List ℕ
+failed_fault_text name (failed.BadLine line) = on_line name line (codes "bad line")
+failed_fault_text name (failed.Memory refused) = []
+
+-- ---- what was named and isn't in the fabric
+
+-- a cable of a file, by its place in the list there, which is told from 1 on
+abbrev pub unknown_cable_text : List ℕ → ℕ → List ℕ
+unknown_cable_text name index = in_file name (codes "cable " ++ decimal (index + 1) ++ codes ": not in the fabric")
+
+abbrev pub without_fault_text : List ℕ → WithoutFault → List ℕ
+without_fault_text name (lost.UnknownCable index) = unknown_cable_text name index
+without_fault_text name (lost.Memory refused) = []
+
 abbrev pub unknown_lid_text : ℕ → List ℕ
 unknown_lid_text lid = in_file (codes "lid " ++ hex4 lid) (codes "not in the fabric")

@@ -1,13 +1,16 @@
 -- What the files of the words say, and what else the words name. What can't be taken is refused with a text.
 use Rattle.std.specs.Prelude.{ℕ, List, length, Result, Ok, Err, ok_or, nat_lt, if◌then◌else◌}
 use Rattle.fab_text.specs.Readings.{◌>>=◌}
+use Rattle.fab_model.specs.declared.rows.Cable.{Cable}
 use Rattle.fab_model.specs.declared.rows.Place.{Place}
 use Rattle.fab_model.specs.Topology.{Topology, place_of}
 use Rattle.fab_model.specs.Built.{built}
+use Rattle.fab_model.specs.Without.{taken_out}
 use Rattle.fab_netdiscover.specs.Reading.{records_in}
 use Rattle.fab_tables.specs.declared.plan.Plan.{Plan}
 use Rattle.fab_dump.specs.Reading.{plan_of}
-use Rattle.fab_top.specs.FaultTexts.{too_long_text, read_fault_text, fabric_fault_text, plan_fault_text, unknown_lid_text}
+use Rattle.fab_repair.specs.FailedList.{cables_in}
+use Rattle.fab_top.specs.FaultTexts.{too_long_text, read_fault_text, fabric_fault_text, plan_fault_text, failed_fault_text, without_fault_text, unknown_lid_text}
 
 -- the greatest lengths in bytes
 abbrev pub fabric_limit : ℕ
@@ -15,6 +18,10 @@ fabric_limit = 67108864
 
 abbrev pub plan_limit : ℕ
 plan_limit = 536870912
+
+-- of a list of failed cables
+abbrev pub list_limit : ℕ
+list_limit = 1048576
 
 -- a fault by its text
 abbrev pub by_text : {X E : Type 0} → (E → List ℕ) → Result X E → Result X (List ℕ)
@@ -25,7 +32,7 @@ by_text text (Err fault) = Err (text fault)
 abbrev pub within : {X : Type 0} → ℕ → List ℕ → List ℕ → Result X (List ℕ) → Result X (List ℕ)
 within limit name bytes read = if nat_lt limit (length bytes) then Err (too_long_text name) else read
 
--- the fabric that a file of this name says, and the plan
+-- the fabric that a file of this name says, the plan of a fabric, and the failed cables
 abbrev pub fabric_in : List ℕ → List ℕ → Result Topology (List ℕ)
 fabric_in name bytes = within fabric_limit name bytes (
     by_text (read_fault_text name) (records_in bytes) >>= λ records. by_text (fabric_fault_text name) (built records))
@@ -33,7 +40,14 @@ fabric_in name bytes = within fabric_limit name bytes (
 abbrev pub plan_in : Topology → List ℕ → List ℕ → Result Plan (List ℕ)
 plan_in t name bytes = within plan_limit name bytes (by_text (plan_fault_text name) (plan_of t bytes))
 
+abbrev pub failed_in : List ℕ → List ℕ → Result (List Cable) (List ℕ)
+failed_in name bytes = within list_limit name bytes (by_text (failed_fault_text name) (cables_in bytes))
+
 -- ---- what is named
+
+-- the fabric without the cables that a file of this name lists, which are all in it
+abbrev pub without_failed : List ℕ → Topology → List Cable → Result Topology (List ℕ)
+without_failed name t cables = by_text (without_fault_text name) (taken_out t cables)
 
 -- the place of a named LID
 abbrev pub known_place : Topology → ℕ → Result Place (List ℕ)

@@ -19,14 +19,14 @@ use Rattle.fab_report.specs.Recipes.{generated}
 use Rattle.fab_report.specs.Summary.{summary_of}
 use Rattle.fab_top.specs.declared.command.Engine.{Engine}
 use Rattle.fab_top.specs.declared.command.Command.{Command}
-use Rattle.fab_top.specs.declared.command.Command.TheVariants.{Check, Route, Certify, Convert, Show, Load, Gen, Demo}
+use Rattle.fab_top.specs.declared.command.Command.TheVariants.{Check, Route, Certify, Convert, Cut, Show, Load, Gen, Demo}
 use Rattle.fab_top.specs.Words.{command_of}
 use Rattle.fab_top.specs.Answer.{Answer}
 use Rattle.fab_top.specs.Engines.{Lays, RefusesWith}
 use Rattle.fab_top.specs.Files.{fabric_limit, fabric_in, plan_in, known_place}
 use Rattle.fab_top.specs.ReportTexts.{summary_text}
 use Rattle.fab_top.specs.Texts.{ok_routes, ok_lanes}
-use Rattle.fab_top.specs.Seen.{Seen, After, WithFabric, WithBoth}
+use Rattle.fab_top.specs.Seen.{Seen, After, WithFabric, WithBoth, WithoutFailed}
 
 -- following the tables from every switch reaches every LID connected to it, and meets no switch twice
 abbrev pub FollowsWell : Topology → Entries → Type 0
@@ -134,6 +134,7 @@ KeepsHeadlineOf w (Check fabric plan) answer = WithBoth w fabric plan ChecksTrul
 KeepsHeadlineOf w (Route fabric engine) answer = WithFabric w fabric (RoutesTruly engine) answer
 KeepsHeadlineOf w (Certify fabric plan) answer = WithBoth w fabric plan CertifiesTruly answer
 KeepsHeadlineOf w (Convert fabric plan) answer = WithBoth w fabric plan ConvertsTruly answer
+KeepsHeadlineOf w (Cut fabric failed) answer = WithFabric w fabric (λ t. WithoutFailed w t failed WritesTruly) answer
 KeepsHeadlineOf w (Show fabric plan from to) answer = WithBoth w fabric plan (ShowsTruly from.0 to.0) answer
 KeepsHeadlineOf w (Load fabric plan) answer = WithBoth w fabric plan IsDone answer
 KeepsHeadlineOf w (Gen recipe) answer = GeneratesTruly recipe answer

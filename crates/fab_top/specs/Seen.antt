@@ -1,9 +1,10 @@
 -- The words, and what is seen of the files that they name.
 use Rattle.std.specs.Prelude.{◌≡◌, ℕ, List, [], Option, None, Some, Result, Ok, Err, slice_get, unwrap_or, ◌==◌, if◌then◌else◌}
+use Rattle.fab_model.specs.declared.rows.Cable.{Cable}
 use Rattle.fab_model.specs.Topology.{Topology}
 use Rattle.fab_tables.specs.declared.plan.Plan.{Plan}
 use Rattle.fab_top.specs.Answer.{Answer, refused, unread}
-use Rattle.fab_top.specs.Files.{fabric_in, plan_in}
+use Rattle.fab_top.specs.Files.{fabric_in, plan_in, failed_in, without_failed}
 
 -- the content of a file: told, not told, or one that can't be read
 pub data Content : Type 0 where
@@ -52,3 +53,11 @@ WithPlan w t place rest answer = AfterFile (word_at w.words place) (w.content pl
 -- after a fabric and a plan of it are read
 abbrev pub WithBoth : Seen → ℕ → ℕ → (Topology → Plan → Answer → Type 0) → Answer → Type 0
 WithBoth w fabric plan rest answer = WithFabric w fabric (λ t. WithPlan w t plan (rest t)) answer
+
+-- after a list of failed cables is read
+abbrev pub WithFailed : Seen → ℕ → (List Cable → Answer → Type 0) → Answer → Type 0
+WithFailed w place rest answer = AfterFile (word_at w.words place) (w.content place) failed_in rest answer
+
+-- after it is read, and its cables are all in the fabric: with the fabric without them
+abbrev pub WithoutFailed : Seen → Topology → ℕ → (Topology → Answer → Type 0) → Answer → Type 0
+WithoutFailed w t failed rest answer = WithFailed w failed (λ cables. After (without_failed (word_at w.words failed) t cables) rest) answer

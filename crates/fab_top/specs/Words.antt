@@ -3,6 +3,7 @@
 --     route minhop|dor FABRIC
 --     certify FABRIC PLAN
 --     convert FABRIC PLAN
+--     cut FABRIC FAILED
 --     show FABRIC PLAN SRC DST
 --     load FABRIC PLAN
 --     gen KIND A B SEED
@@ -134,6 +135,7 @@ commands =
     ∷ (codes "route", route_words)
     ∷ (codes "certify", two_files command.Certify)
     ∷ (codes "convert", two_files command.Convert)
+    ∷ (codes "cut", two_files command.Cut)
     ∷ (codes "show", show_words)
     ∷ (codes "load", two_files command.Load)
     ∷ (codes "gen", gen_words)

@@ -36,6 +36,11 @@ pub enum Command {
         fabric: usize,
         plan: usize,
     },
+    /// A fabric without the cables of a list.
+    Cut {
+        fabric: usize,
+        failed: usize,
+    },
     /// The route of a plan from the place of one LID to another.
     Show {
         fabric: usize,

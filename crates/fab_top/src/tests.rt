@@ -50,16 +50,15 @@ fn shelf_of_line(alloc: Global) -> Result<MemoryShelf, Fail> {
     Ok(shelf)
 }
 
-/// The status of a command on a fabric and a plan.
+/// The status of a run of these words.
 fn status(
     alloc: Global,
     shelf: &mut MemoryShelf,
     out: &mut MemorySink,
-    command: &str,
-    plan: &str,
+    line: &[&str],
 ) -> Result<u8, Fail> {
     let mut words = Vec::new(alloc);
-    for word in [command, "LINE", plan] {
+    for word in line {
         words.push(String::from_str(alloc, word)?)?;
     }
     let mut err = MemorySink::new(alloc);
@@ -74,13 +73,19 @@ fn what_is_certified_is_checked_and_converted(rt: HostRuntime) -> Result<(), Fai
     let mut verdict = MemorySink::new(alloc);
     let mut again = MemorySink::new(alloc);
     assert_eq!(rt;
-        status(alloc, &mut shelf, &mut plan, "certify", "LEVEL")?,
+        status(alloc, &mut shelf, &mut plan, &["certify", "LINE", "LEVEL"])?,
         0
     );
     shelf.add("P", plan.bytes())?;
-    assert_eq!(rt; status(alloc, &mut shelf, &mut verdict, "check", "P")?, 0);
+    assert_eq!(rt;
+        status(alloc, &mut shelf, &mut verdict, &["check", "LINE", "P"])?,
+        0
+    );
     assert_eq!(rt; verdict.bytes(), b"ok: routes and lanes\n".as_slice());
-    assert_eq!(rt; status(alloc, &mut shelf, &mut again, "convert", "P")?, 0);
+    assert_eq!(rt;
+        status(alloc, &mut shelf, &mut again, &["convert", "LINE", "P"])?,
+        0
+    );
     assert_eq!(rt; again.bytes(), plan.bytes());
     Ok(())
 }
@@ -93,12 +98,43 @@ fn faults_of_the_outside_pass(rt: HostRuntime) -> Result<(), Fail> {
     let mut whole = MemorySink::new(alloc);
     shelf.fail(2)?;
     out.fail(2, 3)?;
-    assert_eq!(rt; status(alloc, &mut shelf, &mut out, "convert", "LEVEL")?, 4);
-    assert_eq!(rt; status(alloc, &mut shelf, &mut out, "convert", "LEVEL")?, 5);
+    assert_eq!(rt;
+        status(alloc, &mut shelf, &mut out, &["convert", "LINE", "LEVEL"])?,
+        4
+    );
+    assert_eq!(rt;
+        status(alloc, &mut shelf, &mut out, &["convert", "LINE", "LEVEL"])?,
+        5
+    );
     assert_eq!(rt; out.bytes(), b"fabroute plan 2\nlanes 1\nUni".as_slice());
     assert_eq!(rt;
-        status(alloc, &mut shelf, &mut whole, "convert", "LEVEL")?,
+        status(alloc, &mut shelf, &mut whole, &["convert", "LINE", "LEVEL"])?,
         0
     );
+    Ok(())
+}
+
+#[test]
+fn a_fabric_without_failed_cables_is_as_it_was(rt: HostRuntime) -> Result<(), Fail> {
+    let alloc = rt.alloc();
+    let mut shelf = MemoryShelf::new(alloc);
+    let mut ring = MemorySink::new(alloc);
+    let mut left = MemorySink::new(alloc);
+    assert_eq!(rt;
+        status(
+            alloc,
+            &mut shelf,
+            &mut ring,
+            &["gen", "ring", "5", "1", "0"]
+        )?,
+        0
+    );
+    shelf.add("RING", ring.bytes())?;
+    shelf.add("NONE", b"")?;
+    assert_eq!(rt;
+        status(alloc, &mut shelf, &mut left, &["cut", "RING", "NONE"])?,
+        0
+    );
+    assert_eq!(rt; left.bytes(), ring.bytes());
     Ok(())
 }

@@ -40,6 +40,7 @@ fn has_leading_zero(word: &str) -> bool
 }
 
 /// A decimal number of at most a value, without leading zeros.
+#[tactic(auto, using(crate::proofs::LowNumbers::number_is))]
 pub(crate) fn number_in(greatest: u64, word: &str) -> Option<u64>
     ensures number { result ≡ number_in greatest word.now }
     ensures below { IfSome result (λ number. number ≤ greatest) }
@@ -55,6 +56,7 @@ pub(crate) fn number_in(greatest: u64, word: &str) -> Option<u64>
 }
 
 /// `0x` and 1 to 4 hexadecimal digits.
+#[tactic(auto, using(crate::proofs::LowNumbers::short_hex_is))]
 fn hex_in(word: &str) -> Option<u16>
     ensures { result ≡ hex 4 word.now }
 {
@@ -169,6 +171,13 @@ fn command_of(words: &[String]) -> Option<Command>
         "route" => route_words(others),
         "certify" => on_two_files(others, Command::Certify { fabric: 1, plan: 2 }),
         "convert" => on_two_files(others, Command::Convert { fabric: 1, plan: 2 }),
+        "cut" => on_two_files(
+            others,
+            Command::Cut {
+                fabric: 1,
+                failed: 2,
+            },
+        ),
         "show" => show_words(others),
         "load" => on_two_files(others, Command::Load { fabric: 1, plan: 2 }),
         "gen" => gen_words(others),

@@ -23,6 +23,12 @@ convert-requires-clause-fabric g c = (is_spelled c.args.words.now _ _ c.requires
 pub convert-requires-clause-plan : goal.convert-requires-clause-plan
 convert-requires-clause-plan g c = (is_spelled c.args.words.now _ _ c.requires c.in-Convert.is).places.1.0
 
+pub cut-requires-clause-fabric : goal.cut-requires-clause-fabric
+cut-requires-clause-fabric g c = (is_spelled c.args.words.now _ _ c.requires c.in-Cut.is).places.0
+
+pub cut-requires-clause-failed : goal.cut-requires-clause-failed
+cut-requires-clause-failed g c = (is_spelled c.args.words.now _ _ c.requires c.in-Cut.is).places.1.0
+
 pub show-requires-clause-fabric : goal.show-requires-clause-fabric
 show-requires-clause-fabric g c = (is_spelled c.args.words.now _ _ c.requires c.in-Show.is).places.0
 
