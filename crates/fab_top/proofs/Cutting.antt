@@ -23,13 +23,10 @@ module _ (w : Seen) (fabric failed : ℕ) where
         fabric_one w fabric (λ t. WithoutFailed w t failed IsFabricText) a b told
         (λ t made. without_one w t failed IsFabricText a b made listed (λ left fits x y. x ∙ sym y)) first second
 
-    small_text : (n : ℕ) → n ≤ 1 → n ≤ 3
-    small_text n small = omega (arith, small)
-
     pub cut_is_small : (a : Answer) → IsCutAnswer a → a.status ≤ 3
     cut_is_small a is =
         fabric_small w fabric (λ t. WithoutFailed w t failed IsFabricText) a told
-        (λ t. without_small w t failed IsFabricText a listed (λ left x. small_text a.status (done_is_small (text_of left) a x))) is
+        (λ t. without_small w t failed IsFabricText a listed (λ left x. omega (arith, done_is_small (text_of left) a x))) is
 
     pub cut_exists : HasRightAnswer IsCutAnswer
     cut_exists =
