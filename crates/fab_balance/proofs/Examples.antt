@@ -35,10 +35,10 @@ no_hop = record { holds = refl; least = λ m w. omega arith }
 
 -- DOR's entry at the first switch for the LIDs of the second
 pub least_port : IsLeast (λ p. LeadsNearer pair 0 1 p) 1
-least_port = record { holds = (0, 0, refl, one_hop, no_hop); least = least }
+least_port = record { holds = record { channel = 0; hops = 0; leaves = refl; from_here = one_hop; from_tip = no_hop }; least = least }
   where
     least : (m : ℕ) → LeadsNearer pair 0 1 m → 1 ≤ m
-    least zero h = cc
+    least zero h = let at = h.leaves in cc
     least (suc m) h = omega arith
 
 -- with loads 4, 2, 2 at ports 1, 2, 3 and eligible ports 3, 2, 1 it is port 2

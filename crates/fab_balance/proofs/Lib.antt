@@ -1,6 +1,12 @@
-pub mod Picks
 pub mod Examples
 pub mod Reaching
 pub mod OneTables
 pub mod ShortestRoutes
 pub mod DorRoutes
+pub mod NearerPorts
+pub mod EntriesSet
+pub mod Placing
+pub mod LidPlaces
+pub mod LoadCounts
+pub mod Choosing
+pub mod Balancing

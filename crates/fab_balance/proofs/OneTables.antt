@@ -1,12 +1,10 @@
 -- A fabric has one Min Hop table and one DOR table: the entries of the smaller LIDs decide those of a LID.
-use Rattle.std.proofs.Common.{◌≡◌, ℕ, zero, suc, ◌<◌, ◌≤◌, ◌⊎◌, inl, inr, Bool, true, false, List, refl, sym, ◌∙◌, ap, subst, arith}
+use Rattle.std.proofs.Common.{◌≡◌, ℕ, zero, suc, ◌<◌, ◌≤◌, ◌⊎◌, inl, inr, refl, sym, ◌∙◌, subst, arith}
 use Rattle.std.proofs.Math.Path.{fun_ext}
-use Rattle.std.specs.Prelude.{count_by, nat_lt, ◌&&◌, ◌==◌}
-use Rattle.std.proofs.lemmas.Bool.{cases_eq, ltb-true}
+use Rattle.std.proofs.lemmas.Bool.{cases_eq}
 use Rattle.std.proofs.lemmas.Bool.Decides.{eqb_tells}
 use Rattle.fab_graph.specs.Least.{IsNotAfter}
 use Rattle.fab_graph.proofs.Graphs.{one_least}
-use Rattle.fab_model.specs.declared.rows.TerminalRow.{TerminalRow}
 use Rattle.fab_model.specs.Topology.{Topology}
 use Rattle.fab_model.specs.Connected.{IsConnectedTo}
 use Rattle.fab_tables.specs.Entries.{Entries, entry}
@@ -15,6 +13,7 @@ use Rattle.fab_balance.specs.Eligible.{LeadsNearer}
 use Rattle.fab_balance.specs.Loads.{load_of, IsBalancedChoice}
 use Rattle.fab_balance.specs.Laws.{OneMinHopTable, OneDorTable}
 use Rattle.fab_tables.proofs.Rows.SameTables.{entries_same}
+use Rattle.fab_balance.proofs.LoadCounts.{loads_same}
 
 abbrev SameEntries : Entries → Entries → ℕ → Type 0
 SameEntries e f lid = (s : ℕ) → entry e s lid ≡ entry f s lid
@@ -51,24 +50,6 @@ one_dor_table t e f good x y =
 
 -- ---- Min Hop
 
--- tests that agree count the same
-same_counts : {A : Type 0} (p q : A → Bool) (xs : List A) → ((a : A) → p a ≡ q a) → count_by p xs ≡ count_by q xs
-same_counts p q xs same = ap (λ test. count_by test xs) (fun_ext same)
-
-same_test : (lid n a b port : ℕ) → (n < lid → a ≡ b) → (nat_lt n lid && (a == port)) ≡ (nat_lt n lid && (b == port))
-same_test lid n a b port same = go (nat_lt n lid) refl
-  where
-    go : (v : Bool) → nat_lt n lid ≡ v → (v && (a == port)) ≡ (v && (b == port))
-    go true is = ap (λ z. z == port) (same (ltb-true n lid is))
-    go false is = refl
-
--- the loads for a LID are made of the entries of smaller ones
-loads_same : (t : Topology) (e f : Entries) (lid : ℕ) → ((other : ℕ) → other < lid → SameEntries e f other) → (s port : ℕ) →
-    load_of t e s lid port ≡ load_of t f s lid port
-loads_same t e f lid smaller s port =
-    same_counts (λ (p : TerminalRow). nat_lt p.lid.0 lid && (entry e s p.lid.0 == port)) (λ (p : TerminalRow). nat_lt p.lid.0 lid && (entry f s p.lid.0 == port)) t.terminals
-    (λ p. same_test lid p.lid.0 (entry e s p.lid.0) (entry f s p.lid.0) port (λ low. smaller p.lid.0 low s))
-
 not_after_both : (a b m n : ℕ) → (a < b) ⊎ ((a ≡ b) × (m ≤ n)) → (b < a) ⊎ ((b ≡ a) × (n ≤ m)) → m ≡ n
 not_after_both a b m n (inl p) (inl q) = absurd (omega arith)
 not_after_both a b m n (inl p) (inr q) = absurd (omega (arith, q.0))
@@ -84,4 +65,4 @@ one_choice t e f s lid Eligible m n same x y =
 pub one_min_hop_table : OneMinHopTable
 one_min_hop_table t e f good x y =
     one_table t e f x.fixed y.fixed (λ lid smaller s to is.
-    one_choice t e f s lid (λ p. LeadsNearer t s to p) (entry e s lid) (entry f s lid) (λ port. loads_same t e f lid smaller s port) (x.chosen s lid to is) (y.chosen s lid to is))
+    one_choice t e f s lid (λ p. LeadsNearer t s to p) (entry e s lid) (entry f s lid) (λ port. loads_same t e f s lid (λ other low. smaller other low s) port) (x.chosen s lid to is) (y.chosen s lid to is))

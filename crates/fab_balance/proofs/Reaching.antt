@@ -31,7 +31,7 @@ module _ (t : Topology) (e : Entries) (good : IsWellFormed t) (nearer : AreNeare
       connected = let P : Place → Type 0 = λ q. AreConnected t s q.switch.0 in subst P (same_Some c.0 place (sym c.1 ∙ is)) c.2
 
       go : s ≢ place.switch.0 → LeadsNearer t s place.switch.0 (entry e s lid) → GoesNearer t e lid Hops s
-      go other x = (x.0, suc x.1, x.1, goes_along t lid s (entry e s lid) x.0 place good is other x.2, (place, is, (x.1, x.4.holds)), x.3, x.4, omega arith)
+      go other x = (x.channel, suc x.hops, x.hops, goes_along t lid s (entry e s lid) x.channel place good is other x.leaves, (place, is, (x.hops, x.from_tip.holds)), x.from_here, x.from_tip, omega arith)
 
 pub nearer_reaches : NearerReaches
 nearer_reaches t e good nearer s lid c =

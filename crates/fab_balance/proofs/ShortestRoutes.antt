@@ -13,9 +13,8 @@ use Rattle.fab_tables.specs.Route.Hop.{Along, Stop}
 use Rattle.fab_tables.specs.declared.end.End.TheVariants.{Delivered}
 use Rattle.fab_tables.proofs.Paths.FallingRoutes.{own_delivers, goes_along, connected_below}
 use Rattle.fab_hops.specs.HopCounts.{IsHopCount}
-use Rattle.fab_hops.proofs.HopLaws.{one_hop_count}
+use Rattle.fab_hops.proofs.HopLaws.{one_hop_count, hops_small}
 use Rattle.fab_hops.proofs.HopWalks.{connected_have_count}
-use Rattle.fab_hops.proofs.SmallCounts.{count_is_small}
 use Rattle.fab_balance.specs.Eligible.{LeadsNearer}
 use Rattle.fab_balance.specs.Laws.{AreNearerTables, NearerRoutesAreShortest}
 
@@ -35,11 +34,11 @@ module _ (t : Topology) (e : Entries) (good : IsWellFormed t) (nearer : AreNeare
 
       on : ((next m : ℕ) → IsHopCount t next place.switch.0 m → m < n → IsHopCount t next place.switch.0 (length (rest next).channels)) → s ≢ place.switch.0 → LeadsNearer t s place.switch.0 (entry e s lid) → IsHopCount t s place.switch.0 (length (after_hop t rest (hop_by t lid s (entry e s lid))).channels)
       on more other y =
-          let along : hop_by t lid s (entry e s lid) ≡ Along y.0 = goes_along t lid s (entry e s lid) y.0 place good is other y.2 in
-          let fewer : y.1 < n = omega (arith, h, one_hop_count t s place.switch.0 count (suc y.1) x y.3) in
-          let later : IsHopCount t (tip t y.0) place.switch.0 (length (rest (tip t y.0)).channels) = more (tip t y.0) y.1 y.4 fewer in
-          let same : suc y.1 ≡ suc (length (rest (tip t y.0)).channels) = omega (arith, one_hop_count t (tip t y.0) place.switch.0 y.1 (length (rest (tip t y.0)).channels) y.4 later) in
-          subst (λ hop. IsHopCount t s place.switch.0 (length (after_hop t rest hop).channels)) (sym along) (subst (λ k. IsHopCount t s place.switch.0 k) same y.3)
+          let along : hop_by t lid s (entry e s lid) ≡ Along y.channel = goes_along t lid s (entry e s lid) y.channel place good is other y.leaves in
+          let fewer : y.hops < n = omega (arith, h, one_hop_count t s place.switch.0 count (suc y.hops) x y.from_here) in
+          let later : IsHopCount t (tip t y.channel) place.switch.0 (length (rest (tip t y.channel)).channels) = more (tip t y.channel) y.hops y.from_tip fewer in
+          let same : suc y.hops ≡ suc (length (rest (tip t y.channel)).channels) = omega (arith, one_hop_count t (tip t y.channel) place.switch.0 y.hops (length (rest (tip t y.channel)).channels) y.from_tip later) in
+          subst (λ hop. IsHopCount t s place.switch.0 (length (after_hop t rest hop).channels)) (sym along) (subst (λ k. IsHopCount t s place.switch.0 k) same y.from_here)
 
       go : ((next m : ℕ) → IsHopCount t next place.switch.0 m → m < n → IsHopCount t next place.switch.0 (length (rest next).channels)) → (((s == place.switch.0) ≡ true) × (s ≡ place.switch.0)) ⊎ (((s == place.switch.0) ≡ false) × (s ≢ place.switch.0)) → IsHopCount t s place.switch.0 (length (after_hop t rest (hop_by t lid s (entry e s lid))).channels)
       go more (inl same) = subst (λ hop. IsHopCount t s place.switch.0 (length (after_hop t rest hop).channels)) (sym (stops same.1)) (there same.1)
@@ -49,4 +48,4 @@ pub routes_are_shortest : NearerRoutesAreShortest
 routes_are_shortest t e s lid place good nearer is c =
     let joined : AreConnected t s place.switch.0 = (let P : Place → Type 0 = λ q. AreConnected t s q.switch.0 in subst P (same_Some c.0 place (sym c.1 ∙ is)) c.2) in
     let count : (n : ℕ) × IsHopCount t s place.switch.0 n = connected_have_count t s place.switch.0 joined in
-    within t e good nearer lid place is (length t.switches) s count.0 count.1 (count_is_small t s place.switch.0 count.0 good (connected_below t good s lid c) count.1)
+    within t e good nearer lid place is (length t.switches) s count.0 count.1 (hops_small t s place.switch.0 count.0 good (connected_below t good s lid c) count.1)

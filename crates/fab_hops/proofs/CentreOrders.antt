@@ -1,24 +1,37 @@
--- A component has one order by (eccentricity, index).
-use Rattle.std.proofs.Common.{◌≡◌, ℕ, ◌<◌, ◌⊎◌, inl, inr, arith}
+-- A component has one centre order, the same one for each of its switches.
+use Rattle.std.proofs.Common.{◌≡◌, ℕ, ◌<◌, List, sym, subst, inl, inr, ◌⊎◌, arith}
+use Rattle.fab_graph.proofs.Orders.{one_order}
 use Rattle.fab_model.specs.Topology.{Topology}
-use Rattle.fab_model.proofs.Lists.Members.{in_from_Contains, Contains_from_in, pairs_from_AllPairs}
-use Rattle.fab_model.proofs.Lists.Found.{rising_same}
-use Rattle.fab_hops.specs.Centres.{IsNearerCentre}
+use Rattle.fab_model.specs.Connected.{AreConnected}
+use Rattle.fab_model.specs.WellFormed.{IsWellFormed}
+use Rattle.fab_hops.specs.Centres.{IsNearerCentre, IsCentreOrder}
 use Rattle.fab_hops.specs.Laws.{OneCentreOrder}
 use Rattle.fab_hops.proofs.HopLaws.{one_eccentricity}
+use Rattle.fab_hops.proofs.HopWalks.{connected_back, connected_through}
 
--- of two switches one at most is nearer to the centre
-pub nearer_is_strict : (t : Topology) (a b : ℕ) → IsNearerCentre t a b → IsNearerCentre t b a → ⊥
-nearer_is_strict t a b x y = go x.before y.before (one_eccentricity t a x.near y.far x.first_has y.second_has) (one_eccentricity t b x.far y.near x.second_has y.first_has)
-  where
-    go : (x.near < x.far) ⊎ ((x.near ≡ x.far) × (a < b)) → (y.near < y.far) ⊎ ((y.near ≡ y.far) × (b < a)) → x.near ≡ y.far → x.far ≡ y.near → ⊥
-    go (inl p) (inl q) e f = omega arith
-    go (inl p) (inr q) e f = omega (arith, q.0)
-    go (inr p) (inl q) e f = omega (arith, p.0)
-    go (inr p) (inr q) e f = omega (arith, p.1, q.1)
+not_both : (m n a b : ℕ) → (m < n) ⊎ ((m ≡ n) × (a < b)) → (n < m) ⊎ ((n ≡ m) × (b < a)) → ⊥
+not_both m n a b (inl x) (inl y) = omega arith
+not_both m n a b (inl x) (inr y) = omega (arith, y.0)
+not_both m n a b (inr x) (inl y) = omega (arith, x.0)
+not_both m n a b (inr x) (inr y) = omega (arith, x.1, y.1)
+
+-- of two switches, one is nearer the centre at most
+nearer_once : (t : Topology) (a b : ℕ) → IsNearerCentre t a b → IsNearerCentre t b a → ⊥
+nearer_once t a b x y =
+    let near : x.near ≡ y.far = one_eccentricity t a x.near y.far x.first_has y.second_has in
+    let far : x.far ≡ y.near = one_eccentricity t b x.far y.near x.second_has y.first_has in
+    not_both x.near x.far a b x.before (subst (λ n. (n < x.near) ⊎ ((n ≡ x.near) × (b < a))) (sym far) (subst (λ n. (y.near < n) ⊎ ((y.near ≡ n) × (b < a))) (sym near) y.before))
 
 pub one_centre_order : OneCentreOrder
-one_centre_order t s x y p q =
-    rising_same (IsNearerCentre t) (nearer_is_strict t) x y (pairs_from_AllPairs (IsNearerCentre t) x p.ordered) (pairs_from_AllPairs (IsNearerCentre t) y q.ordered)
-    (λ a h. in_from_Contains y a ((q.component a).1 ((p.component a).0 (Contains_from_in x a h))))
-    (λ a h. in_from_Contains x a ((p.component a).1 ((q.component a).0 (Contains_from_in y a h))))
+one_centre_order t s x y p q = one_order (IsNearerCentre t) (nearer_once t) x y p.ordered q.ordered
+    (λ a has. (q.component a).1 ((p.component a).0 has)) (λ a has. (p.component a).1 ((q.component a).0 has))
+
+-- connected switches have the same orders
+pub order_of_component : (t : Topology) → IsWellFormed t → (s u : ℕ) (x : List ℕ) → AreConnected t s u → IsCentreOrder t s x → IsCentreOrder t u x
+order_of_component t good s u x joined p = record {
+  component = λ a. (
+    λ has. connected_through t u s a (connected_back t good s u joined) ((p.component a).0 has),
+    λ w. (p.component a).1 (connected_through t s u a joined w),
+  );
+  ordered = p.ordered;
+}

@@ -1,0 +1,6 @@
+-- The LIDs so far have the balanced choices, and the counters hold the loads.
+use Rattle.fab_balance.proofs.Balancing.{IsBalancing}
+use Rattle.fab_balance.proofs.min_hop_tables.choose_balanced.Given as goal
+
+abbrev pub invariant-loop-lid : goal.invariant-loop-lid
+invariant-loop-lid l = IsBalancing l.fabric l.fn.s.0 l.fn.tables l.tables l.lid-index l.loads
