@@ -106,14 +106,14 @@ nearer_decided : (t : Topology) (s to n : ℕ) → IsHopCount t s to (suc n) →
 nearer_decided t s to n count port = by (channel_at t s port) refl
   where
     by : (o : Option ℕ) → channel_at t s port ≡ o → Decided (LeadsNearer t s to port)
-    by None e = inr (λ x. none-some x.0 (sym e ∙ x.2))
-    by (Some c) e = equivalent (IsHopCount t (tip t c) to n) (LeadsNearer t s to port) (λ x. (c, n, e, count, x)) back (count_decided t (tip t c) to n)
+    by None e = inr (λ x. none-some x.channel (sym e ∙ x.leaves))
+    by (Some c) e = equivalent (IsHopCount t (tip t c) to n) (LeadsNearer t s to port) (λ x. record { channel = c; hops = n; leaves = e; from_here = count; from_tip = x }) back (count_decided t (tip t c) to n)
       where
         back : LeadsNearer t s to port → IsHopCount t (tip t c) to n
         back x =
-            let channel : x.0 ≡ c = same_Some x.0 c (sym x.2 ∙ e) in
-            let hops : x.1 ≡ n = omega (arith, one_hop_count t s to (suc x.1) (suc n) x.3 count) in
-            subst (λ m. IsHopCount t (tip t c) to m) hops (subst (λ d. IsHopCount t (tip t d) to x.1) channel x.4)
+            let channel : x.channel ≡ c = same_Some x.channel c (sym x.leaves ∙ e) in
+            let hops : x.hops ≡ n = omega (arith, one_hop_count t s to (suc x.hops) (suc n) x.from_here count) in
+            subst (λ m. IsHopCount t (tip t c) to m) hops (subst (λ d. IsHopCount t (tip t d) to x.hops) channel x.from_tip)
 
 some_nearer_port : (t : Topology) (s to n : ℕ) → IsWellFormed t → IsHopCount t s to (suc n) → (port : ℕ) × LeadsNearer t s to port
 some_nearer_port t s to n good count =
@@ -124,10 +124,10 @@ some_nearer_port t s to n good count =
     let there : slice_get t.channels channel ≡ Some row = slice_get-get_or t.channels channel row found.1.1.1 ∙ ap (λ (r : ChannelRow). Some r) found.1.1.2 in
     let at : channel_at t s row.port ≡ Some channel = subst (λ x. channel_at t x row.port ≡ Some channel) found.1.2 (channels_are_found t channel row good there) in
     let leads : found.0 ≡ tip t channel = sym (ap tip_of_row there ∙ found.1.3) in
-    (row.port, (channel, n, at, count, subst (λ x. IsHopCount t x to n) leads found.2))
+    (row.port, record { channel = channel; hops = n; leaves = at; from_here = count; from_tip = subst (λ x. IsHopCount t x to n) leads found.2 })
 
 low_port : (t : Topology) (s to port : ℕ) → IsWellFormed t → LeadsNearer t s to port → port < 256
-low_port t s to port good x = omega (arith, channel_port_small t good s port x.0 x.2)
+low_port t s to port good x = omega (arith, channel_port_small t good s port x.channel x.leaves)
 
 least_nearer : (t : Topology) (load : ℕ → ℕ) (s to n : ℕ) → IsWellFormed t → IsHopCount t s to (suc n) → LeastChoice load (λ port. LeadsNearer t s to port) 256
 least_nearer t load s to n good count = elim (least_choice load (λ port. LeadsNearer t s to port) (nearer_decided t s to n count) 256) [
@@ -294,7 +294,7 @@ module _ (t : Topology) (fabric : IsFabric t) (load : Load) where
 -- ---- the tables of both engines
 
 no_load : Load
-no_load g s lid port = 0
+no_load g s lid at = 0
 
 pub dor_table_exists : (t : Topology) → IsFabric t → (e : Entries) × AreDorTables t e
 unfolding no_load
@@ -308,7 +308,7 @@ dor_table_exists t fabric = (tables t fabric no_load, record { fixed = fixed t f
     least s lid to best = record { holds = best.0; least = λ other x. by_port _ other (best.1 other x) }
 
 terminal_load : Topology → Load
-terminal_load t g s lid port = count_by (λ p. nat_lt p.lid.0 lid && (g s p.lid.0 == port)) t.terminals
+terminal_load t g s lid at = count_by (λ p. nat_lt p.lid.0 lid && (g s p.lid.0 == at)) t.terminals
 
 same_test : (lid n a b port : ℕ) → (n < lid → a ≡ b) → (nat_lt n lid && (a == port)) ≡ (nat_lt n lid && (b == port))
 same_test lid n a b port same = by (nat_lt n lid) refl
