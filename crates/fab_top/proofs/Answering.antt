@@ -18,10 +18,10 @@ use Rattle.fab_netdiscover.specs.Writing.{text_of}
 use Rattle.fab_report.specs.Loads.{loads_of}
 use Rattle.fab_report.specs.Recipes.{generated}
 use Rattle.fab_top.specs.declared.command.Command.{Command}
-use Rattle.fab_top.specs.declared.command.Command.TheVariants.{Check, Certify, Convert, Cut, Show, Load, Gen}
+use Rattle.fab_top.specs.declared.command.Command.TheVariants.{Check, Route, Certify, Convert, Cut, Show, Load, Gen, Demo}
 use Rattle.fab_top.specs.Answer.{Answer, done}
-use Rattle.fab_top.specs.Answers.{IsAnswerTo, IsCheckAnswer, IsCertifyAnswer, IsPlanText, IsShowAnswer, IsLoadAnswer, verdict_answer, certified_answer, usage}
-use Rattle.fab_top.specs.Headline.{KeepsHeadlineOf, ChecksTruly, CertifiesTruly, ConvertsTruly, ShowsTruly, IsDone}
+use Rattle.fab_top.specs.Answers.{IsAnswerTo, IsCheckAnswer, IsRouteAnswer, IsCertifyAnswer, IsPlanText, IsShowAnswer, IsLoadAnswer, verdict_answer, certified_answer, usage}
+use Rattle.fab_top.specs.Headline.{KeepsHeadlineOf, ChecksTruly, RoutesTruly, CertifiesTruly, ConvertsTruly, ShowsTruly, IsDone}
 use Rattle.fab_top.specs.Laws.{OneAnswer, AnswersKeepHeadline, StatusIsSmall, AnswerExists}
 use Rattle.fab_top.specs.Ran.{files_of}
 use Rattle.fab_top.specs.ReportTexts.{load_text}
@@ -30,9 +30,10 @@ use Rattle.fab_top.specs.Words.{command_of}
 use Rattle.fab_top.proofs.AfterFiles.{IsTold, HasRightAnswer, IsReadPlan, fabric_weaker, fabric_one, fabric_small, fabric_exists, plan_weaker, plan_one, plan_small, plan_exists}
 use Rattle.fab_top.proofs.Certifying.{certificate_keeps, certificate_is_small, plan_keeps, plan_is_small}
 use Rattle.fab_top.proofs.Cutting.{cut_keeps, one_cut, cut_is_small, cut_exists}
-use Rattle.fab_top.proofs.Generating.{done_is_small, generates_truly}
+use Rattle.fab_top.proofs.Generating.{done_is_small, fitting_is_fabric, generates_truly}
 use Rattle.fab_top.proofs.Judging.{true_verdict, verdict_keeps, verdict_is_small}
 use Rattle.fab_top.proofs.Loading.{load_keeps}
+use Rattle.fab_top.proofs.EngineAnswers.{one_route, route_keeps, route_is_small, route_exists, one_demo, demo_keeps, demo_is_small, demo_exists}
 use Rattle.fab_top.proofs.Showing.{one_show, show_keeps, show_is_small, show_exists}
 use Rattle.fab_top.proofs.SpelledCommands.{HasFittingRecipe, has_fitting_recipe}
 
@@ -83,6 +84,16 @@ both_exist w fabric plan rest told exists =
 abbrev AnswersIt : Seen → Option Command → Answer → Type 0
 AnswersIt w command a = MatchOption command (a ≡ usage) (λ c. IsAnswerTo w c a)
 
+-- ---- the recipe of a command
+
+abbrev IfFitting : Option Command → Type 0
+IfFitting None = Unit {0}
+IfFitting (Some command) = HasFittingRecipe command
+
+if_fitting : (words : List (List ℕ)) (command : Option Command) → command_of words ≡ command → IfFitting command
+if_fitting words None e = tt
+if_fitting words (Some command) e = has_fitting_recipe words command e
+
 -- ---- one answer
 
 one_check : (t : Topology) (p : Plan) (a b : Answer) → IsCheckAnswer t p a → IsCheckAnswer t p b → a ≡ b
@@ -95,24 +106,27 @@ one_certified t p a b fits first second =
     let same : first.0 ≡ second.0 = one_certificate t p first.0 second.0 fits first.1 second.1 in
     first.2 ∙ ap (certified_answer t p) same ∙ sym second.2
 
-one_answer_to : (w : Seen) (command : Option Command) (a b : Answer) → AreTold w (option_map_or files_of command []) → AnswersIt w command a → AnswersIt w command b → a ≡ b
-one_answer_to w None a b told first second = first ∙ sym second
-one_answer_to w (Some (Check fabric plan)) a b told first second =
+one_answer_to : (w : Seen) (command : Option Command) (a b : Answer) → IfFitting command → AreTold w (option_map_or files_of command []) → AnswersIt w command a → AnswersIt w command b → a ≡ b
+one_answer_to w None a b fitting told first second = first ∙ sym second
+one_answer_to w (Some (Check fabric plan)) a b fitting told first second =
     both_one w fabric plan IsCheckAnswer a b told (λ t p read x y. one_check t p a b x y) first second
-one_answer_to w (Some (Certify fabric plan)) a b told first second =
+one_answer_to w (Some (Route fabric engine)) a b fitting told first second =
+    fabric_one w fabric (IsRouteAnswer engine) a b (first_told w fabric [] told) (λ t made x y. one_route engine t a b made x y) first second
+one_answer_to w (Some (Certify fabric plan)) a b fitting told first second =
     both_one w fabric plan IsCertifyAnswer a b told (λ t p read x y. one_certified t p a b read.fits x y) first second
-one_answer_to w (Some (Convert fabric plan)) a b told first second =
+one_answer_to w (Some (Convert fabric plan)) a b fitting told first second =
     both_one w fabric plan IsPlanText a b told (λ t p read x y. x ∙ sym y) first second
-one_answer_to w (Some (Cut fabric failed)) a b told first second =
+one_answer_to w (Some (Cut fabric failed)) a b fitting told first second =
     one_cut w fabric failed (first_told w fabric (failed ∷ []) told) (second_told w fabric failed [] told) a b first second
-one_answer_to w (Some (Show fabric plan from to)) a b told first second =
+one_answer_to w (Some (Show fabric plan from to)) a b fitting told first second =
     both_one w fabric plan (IsShowAnswer from.0 to.0) a b told (λ t p read x y. one_show t p from.0 to.0 a b x y) first second
-one_answer_to w (Some (Load fabric plan)) a b told first second =
+one_answer_to w (Some (Load fabric plan)) a b fitting told first second =
     both_one w fabric plan IsLoadAnswer a b told (λ t p read x y. x ∙ sym y) first second
-one_answer_to w (Some (Gen recipe)) a b told first second = first ∙ sym second
+one_answer_to w (Some (Gen recipe)) a b fitting told first second = first ∙ sym second
+one_answer_to w (Some (Demo recipe engine)) a b fitting told first second = one_demo engine (generated recipe) a b (fitting_is_fabric recipe fitting) first second
 
 pub one_answer : OneAnswer
-one_answer w a b told first second = one_answer_to w (command_of w.words) a b told first second
+one_answer w a b told first second = one_answer_to w (command_of w.words) a b (if_fitting w.words (command_of w.words) refl) told first second
 
 -- ---- promises
 
@@ -125,23 +139,17 @@ certify_keeps t p a read is = certificate_keeps t p is.0 a read.fabric read.fits
 convert_keeps : (t : Topology) (p : Plan) (a : Answer) → IsReadPlan t p → IsPlanText t p a → ConvertsTruly t p a
 convert_keeps t p a read is = plan_keeps t p a read.fabric read.fits read.tidy is
 
-abbrev IfFitting : Option Command → Type 0
-IfFitting None = Unit {0}
-IfFitting (Some command) = HasFittingRecipe command
-
 keeps_by : (w : Seen) (command : Option Command) (a : Answer) → IfFitting command → AnswersIt w command a → MatchOption command (Unit {0}) (λ c. KeepsHeadlineOf w c a)
 keeps_by w None a fitting is = tt
 keeps_by w (Some (Check fabric plan)) a fitting is = both_weaker w fabric plan IsCheckAnswer ChecksTruly a (λ t p read x. check_keeps t p a read x) is
+keeps_by w (Some (Route fabric engine)) a fitting is = fabric_weaker w fabric (IsRouteAnswer engine) (RoutesTruly engine) a (λ t made x. route_keeps engine t a made x) is
 keeps_by w (Some (Certify fabric plan)) a fitting is = both_weaker w fabric plan IsCertifyAnswer CertifiesTruly a (λ t p read x. certify_keeps t p a read x) is
 keeps_by w (Some (Convert fabric plan)) a fitting is = both_weaker w fabric plan IsPlanText ConvertsTruly a (λ t p read x. convert_keeps t p a read x) is
 keeps_by w (Some (Cut fabric failed)) a fitting is = cut_keeps w fabric failed a is
 keeps_by w (Some (Show fabric plan from to)) a fitting is = both_weaker w fabric plan (IsShowAnswer from.0 to.0) (ShowsTruly from.0 to.0) a (λ t p read x. show_keeps t p from.0 to.0 a x) is
 keeps_by w (Some (Load fabric plan)) a fitting is = both_weaker w fabric plan IsLoadAnswer IsDone a (λ t p read x. load_keeps t p a x) is
 keeps_by w (Some (Gen recipe)) a fitting is = generates_truly recipe a fitting is
-
-if_fitting : (words : List (List ℕ)) (command : Option Command) → command_of words ≡ command → IfFitting command
-if_fitting words None e = tt
-if_fitting words (Some command) e = has_fitting_recipe words command e
+keeps_by w (Some (Demo recipe engine)) a fitting is = demo_keeps engine (generated recipe) a (fitting_is_fabric recipe fitting) is
 
 pub answers_keep_headline : AnswersKeepHeadline
 answers_keep_headline w a is = keeps_by w (command_of w.words) a (if_fitting w.words (command_of w.words) refl) is
@@ -155,6 +163,8 @@ small_by : (w : Seen) (command : Option Command) (a : Answer) → AreTold w (opt
 small_by w None a told is = small_usage a is
 small_by w (Some (Check fabric plan)) a told is =
     both_small w fabric plan IsCheckAnswer a told (λ t p x. verdict_is_small t x.0 a x.2) is
+small_by w (Some (Route fabric engine)) a told is =
+    fabric_small w fabric (IsRouteAnswer engine) a (first_told w fabric [] told) (λ t x. route_is_small engine t a x) is
 small_by w (Some (Certify fabric plan)) a told is =
     both_small w fabric plan IsCertifyAnswer a told (λ t p x. certificate_is_small t p x.0 a x.2) is
 small_by w (Some (Convert fabric plan)) a told is =
@@ -166,6 +176,7 @@ small_by w (Some (Show fabric plan from to)) a told is =
 small_by w (Some (Load fabric plan)) a told is =
     both_small w fabric plan IsLoadAnswer a told (λ t p x. done_is_small (load_text t (loads_of t p.tables)) a x) is
 small_by w (Some (Gen recipe)) a told is = at_most_3 a.status (done_is_small (text_of (generated recipe)) a is)
+small_by w (Some (Demo recipe engine)) a told is = demo_is_small engine (generated recipe) a is
 
 pub status_is_small : StatusIsSmall
 status_is_small w a told is = small_by w (command_of w.words) a told is
@@ -179,15 +190,17 @@ exists_check t p read = let v : (v : Verdict) × IsVerdict t p.tables p.lanes v 
 exists_certify : (t : Topology) (p : Plan) → IsReadPlan t p → HasRightAnswer (IsCertifyAnswer t p)
 exists_certify t p read = let c : (c : Certified) × IsCertificate t p c = certificate_exists t p read.fabric read.fits in (certified_answer t p c.0, (c.0, c.1, refl))
 
-exists_by : (w : Seen) (command : Option Command) → AreTold w (option_map_or files_of command []) → HasRightAnswer (AnswersIt w command)
-exists_by w None told = (usage, refl)
-exists_by w (Some (Check fabric plan)) told = both_exist w fabric plan IsCheckAnswer told exists_check
-exists_by w (Some (Certify fabric plan)) told = both_exist w fabric plan IsCertifyAnswer told exists_certify
-exists_by w (Some (Convert fabric plan)) told = both_exist w fabric plan IsPlanText told (λ t p read. (done (plan_text t p), refl))
-exists_by w (Some (Cut fabric failed)) told = cut_exists w fabric failed (first_told w fabric (failed ∷ []) told) (second_told w fabric failed [] told)
-exists_by w (Some (Show fabric plan from to)) told = both_exist w fabric plan (IsShowAnswer from.0 to.0) told (λ t p read. show_exists t p from.0 to.0)
-exists_by w (Some (Load fabric plan)) told = both_exist w fabric plan IsLoadAnswer told (λ t p read. (done (load_text t (loads_of t p.tables)), refl))
-exists_by w (Some (Gen recipe)) told = (done (text_of (generated recipe)), refl)
+exists_by : (w : Seen) (command : Option Command) → IfFitting command → AreTold w (option_map_or files_of command []) → HasRightAnswer (AnswersIt w command)
+exists_by w None fitting told = (usage, refl)
+exists_by w (Some (Check fabric plan)) fitting told = both_exist w fabric plan IsCheckAnswer told exists_check
+exists_by w (Some (Route fabric engine)) fitting told = fabric_exists w fabric (IsRouteAnswer engine) (first_told w fabric [] told) (λ t made. route_exists engine t made)
+exists_by w (Some (Certify fabric plan)) fitting told = both_exist w fabric plan IsCertifyAnswer told exists_certify
+exists_by w (Some (Convert fabric plan)) fitting told = both_exist w fabric plan IsPlanText told (λ t p read. (done (plan_text t p), refl))
+exists_by w (Some (Cut fabric failed)) fitting told = cut_exists w fabric failed (first_told w fabric (failed ∷ []) told) (second_told w fabric failed [] told)
+exists_by w (Some (Show fabric plan from to)) fitting told = both_exist w fabric plan (IsShowAnswer from.0 to.0) told (λ t p read. show_exists t p from.0 to.0)
+exists_by w (Some (Load fabric plan)) fitting told = both_exist w fabric plan IsLoadAnswer told (λ t p read. (done (load_text t (loads_of t p.tables)), refl))
+exists_by w (Some (Gen recipe)) fitting told = (done (text_of (generated recipe)), refl)
+exists_by w (Some (Demo recipe engine)) fitting told = demo_exists engine (generated recipe) (fitting_is_fabric recipe fitting)
 
 pub answer_exists : AnswerExists
-answer_exists w told = exists_by w (command_of w.words) told
+answer_exists w told = exists_by w (command_of w.words) (if_fitting w.words (command_of w.words) refl) told

@@ -1,2 +1,3 @@
 -- Worked examples.
 mod Cuts
+mod Engines

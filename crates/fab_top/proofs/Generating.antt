@@ -43,9 +43,12 @@ text_found t text outcome same again answer put = record {
 
 -- ---- a recipe
 
+pub fitting_is_fabric : (recipe : Recipe) → IsFitting recipe → IsFabric (generated recipe)
+fitting_is_fabric recipe fitting = generated_is_fabric recipe fitting.fits fitting.seed
+
 pub generates_truly : (recipe : Recipe) (a : Answer) → IsFitting recipe → IsFabricText (generated recipe) a → GeneratesTruly recipe a
 generates_truly recipe a fitting is =
-    let fabric : IsFabric (generated recipe) = generated_is_fabric recipe fitting.fits fitting.seed in
+    let fabric : IsFabric (generated recipe) = fitting_is_fabric recipe fitting in
     (fabric, writes_truly (generated recipe) a fabric (generated_has_no_own_cable recipe fitting.fits) is)
 
 -- what is found of the fabric is found of the recipe

@@ -1,6 +1,8 @@
 pub mod Appends
 pub mod Putting
 pub mod Concluding
+pub mod WithoutFiles
+pub mod OnFabric
 pub mod OnBoth
 pub mod Running
 pub mod Judging
@@ -15,5 +17,8 @@ pub mod Generating
 pub mod Cutting
 pub mod Loading
 pub mod Showing
+pub mod TablesExist
+pub mod EnginePlans
+pub mod EngineAnswers
 pub mod Answering
 mod Examples

@@ -8,10 +8,11 @@ use Rattle.fab_report.specs.declared.recipe.Kind.{Kind}
 use Rattle.fab_report.specs.declared.recipe.Recipe.{Recipe}
 use Rattle.fab_report.specs.Laws.{HasSeed}
 use Rattle.fab_report.specs.Recipes.{fits}
+use Rattle.fab_top.specs.declared.command.Engine.{Engine}
 use Rattle.fab_top.specs.declared.command.Command.{Command}
-use Rattle.fab_top.specs.declared.command.Command.TheVariants.{Check, Certify, Convert, Cut, Load, Gen}
+use Rattle.fab_top.specs.declared.command.Command.TheVariants.{Check, Route, Certify, Convert, Cut, Load, Gen, Demo}
 use Rattle.fab_top.specs.Ran.{files_of}
-use Rattle.fab_top.specs.Words.{texts, is_file, named, number_in, kinds, two_files, recipe_of, recipe_in, lid_in, show_from_to, show_words, gen_words, commands, command_of}
+use Rattle.fab_top.specs.Words.{texts, is_file, named, number_in, kinds, two_files, recipe_of, recipe_in, lid_in, show_from_to, show_words, gen_words, engine_in, asked_behind, asked_by, route_words, demo_words, commands, command_of}
 use Rattle.fab_top.proofs.LowNumbers.{number_is_low}
 
 -- each place is below a number
@@ -26,6 +27,7 @@ pub record IsFitting (recipe : Recipe) : Type 0 where
 -- its recipe, if it has one, fits
 abbrev pub HasFittingRecipe : Command → Type 0
 HasFittingRecipe (Gen recipe) = IsFitting recipe
+HasFittingRecipe (Demo recipe engine) = IsFitting recipe
 HasFittingRecipe _ = Unit {0}
 
 pub record IsSpelledBy (count : ℕ) (command : Command) : Type 0 where
@@ -93,6 +95,14 @@ recipe_fits (Some kind) (Some a) None seed low = tt
 recipe_fits (Some kind) (Some a) (Some b) None low = tt
 recipe_fits (Some kind) (Some a) (Some b) (Some seed) low = fitting (record { kind = kind; a = a; b = b; seed = seed }) _ refl low
 
+spelled_recipe_fits : (kind a b seed : List ℕ) → IfFitting (recipe_in kind a b seed)
+spelled_recipe_fits kind a b seed =
+    recipe_fits (named kinds kind) (number_in (2 ^ 32 - 1) a) (number_in (2 ^ 32 - 1) b) (number_in (2 ^ 64 - 1) seed) (seed_is_low (number_in (2 ^ 64 - 1) seed) (number_is_low (2 ^ 64 - 1) seed))
+  where
+    seed_is_low : (n : Option ℕ) → IfSome n (λ number. number ≤ 2 ^ 64 - 1) → IfLow n
+    seed_is_low None low = tt
+    seed_is_low (Some n) low = omega (arith, low)
+
 made_gen : (recipe : Option Recipe) (made : Command) → IfFitting recipe → option_map (λ r. Gen r) recipe ≡ Some made → IsSpelledBy 5 made
 made_gen None made fits e = cc
 made_gen (Some recipe) made fits e = made_as 5 (Gen recipe) made e (record { places = tt; recipe = fits })
@@ -102,14 +112,34 @@ gen_within [] made e = cc
 gen_within (a ∷ []) made e = cc
 gen_within (a ∷ b ∷ []) made e = cc
 gen_within (a ∷ b ∷ c ∷ []) made e = cc
-gen_within (a ∷ b ∷ c ∷ d ∷ []) made e =
-    made_gen (recipe_in a b c d) made
-    (recipe_fits (named kinds a) (number_in (2 ^ 32 - 1) b) (number_in (2 ^ 32 - 1) c) (number_in (2 ^ 64 - 1) d) (seed_is_low (number_in (2 ^ 64 - 1) d) (number_is_low (2 ^ 64 - 1) d))) e
-  where
-    seed_is_low : (n : Option ℕ) → IfSome n (λ number. number ≤ 2 ^ 64 - 1) → IfLow n
-    seed_is_low None low = tt
-    seed_is_low (Some n) low = omega (arith, low)
+gen_within (a ∷ b ∷ c ∷ d ∷ []) made e = made_gen (recipe_in a b c d) made (spelled_recipe_fits a b c d) e
 gen_within (a ∷ b ∷ c ∷ d ∷ x ∷ rest) made e = cc
+
+made_route : (n : ℕ) (engine : Option Engine) (made : Command) → 2 < n → option_map (λ x. Route 2 x) engine ≡ Some made → IsSpelledBy n made
+made_route n None made low e = cc
+made_route n (Some engine) made low e = made_as n (Route 2 engine) made e (record { places = (low, tt); recipe = tt })
+
+route_within : SpellsRightly route_words
+route_within [] made e = cc
+route_within (a ∷ []) made e = cc
+route_within (a ∷ b ∷ others) made e =
+    let engine : Option Engine = option_and_then (engine_in a) (asked_behind others) in
+    made_route (suc (length (a ∷ b ∷ others))) engine made (omega arith) (made_when (is_file b) (option_map (λ x. Route 2 x) engine) made e)
+
+made_demo : (recipe : Option Recipe) (engine : Option Engine) (made : Command) → IfFitting recipe → option_and_then (λ r. option_map (λ x. Demo r x) engine) recipe ≡ Some made → IsSpelledBy 7 made
+made_demo None engine made fits e = cc
+made_demo (Some recipe) None made fits e = cc
+made_demo (Some recipe) (Some engine) made fits e = made_as 7 (Demo recipe engine) made e (record { places = tt; recipe = fits })
+
+demo_within : SpellsRightly demo_words
+demo_within [] made e = cc
+demo_within (a ∷ []) made e = cc
+demo_within (a ∷ b ∷ []) made e = cc
+demo_within (a ∷ b ∷ c ∷ []) made e = cc
+demo_within (a ∷ b ∷ c ∷ d ∷ []) made e = cc
+demo_within (a ∷ b ∷ c ∷ d ∷ x ∷ []) made e = cc
+demo_within (a ∷ b ∷ c ∷ d ∷ x ∷ y ∷ []) made e = made_demo (recipe_in a b c d) (option_and_then (engine_in x) (asked_by y)) made (spelled_recipe_fits a b c d) e
+demo_within (a ∷ b ∷ c ∷ d ∷ x ∷ y ∷ z ∷ rest) made e = cc
 
 -- ---- the table of the forms
 
@@ -138,16 +168,19 @@ all_right : AllRight commands
 all_right = (
   two_within (λ f p. Check f p) (record { places = both_places; recipe = tt }),
   (
-    two_within (λ f p. Certify f p) (record { places = both_places; recipe = tt }),
+    route_within,
     (
-      two_within (λ f p. Convert f p) (record { places = both_places; recipe = tt }),
+      two_within (λ f p. Certify f p) (record { places = both_places; recipe = tt }),
       (
-        two_within (λ f x. Cut f x) (record { places = both_places; recipe = tt }),
+        two_within (λ f p. Convert f p) (record { places = both_places; recipe = tt }),
         (
-          show_within,
+          two_within (λ f x. Cut f x) (record { places = both_places; recipe = tt }),
           (
-            two_within (λ f p. Load f p) (record { places = both_places; recipe = tt }),
-            (gen_within, tt),
+            show_within,
+            (
+              two_within (λ f p. Load f p) (record { places = both_places; recipe = tt }),
+              (gen_within, (demo_within, tt)),
+            ),
           ),
         ),
       ),

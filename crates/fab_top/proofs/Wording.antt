@@ -9,7 +9,7 @@ use Rattle.fab_model.specs.declared.rows.Lid.{Lid}
 use Rattle.fab_model.specs.Topology.{lid_id}
 use Rattle.fab_top.specs.declared.command.Command.{Command}
 use Rattle.fab_top.specs.declared.command.Command.TheVariants.{Show}
-use Rattle.fab_top.specs.Words.{texts, named, kinds, show_from_to, show_words, gen_words, command_of, commands}
+use Rattle.fab_top.specs.Words.{texts, named, kinds, show_from_to, show_words, gen_words, route_words, demo_words, command_of, commands}
 
 -- a word that a table does not begin with is looked for behind
 other_word : (b : Bool) (xs ys : List ℕ) → Decides b (xs ≡ ys) → (ys ≡ xs → ⊥) → b ≡ false
@@ -33,6 +33,21 @@ not_named (row ∷ table) word others = past_word row table word others.0 ∙ no
 
 pub no_such_kind : (word : List ℕ) → (word ≡ codes "ring" → ⊥) → (word ≡ codes "torus" → ⊥) → (word ≡ codes "tree" → ⊥) → (word ≡ codes "random" → ⊥) → None ≡ named kinds word
 no_such_kind word ring torus tree random = sym (not_named kinds word (ring, (torus, (tree, (random, tt)))))
+
+pub no_route : {Z : Type 0} (others : List (String Z)) → length others < 2 → None ≡ route_words (texts others)
+no_route [] short = refl
+no_route (a ∷ []) short = refl
+no_route (a ∷ b ∷ rest) short = absurd (omega (arith, short))
+
+pub no_demo : {Z : Type 0} (others : List (String Z)) → (length others ≡ 6 → ⊥) → None ≡ demo_words (texts others)
+no_demo [] other = refl
+no_demo (a ∷ []) other = refl
+no_demo (a ∷ b ∷ []) other = refl
+no_demo (a ∷ b ∷ c ∷ []) other = refl
+no_demo (a ∷ b ∷ c ∷ d ∷ []) other = refl
+no_demo (a ∷ b ∷ c ∷ d ∷ x ∷ []) other = refl
+no_demo (a ∷ b ∷ c ∷ d ∷ x ∷ y ∷ []) other = absurd (other (omega arith))
+no_demo (a ∷ b ∷ c ∷ d ∷ x ∷ y ∷ z ∷ rest) other = refl
 
 pub no_recipe : {Z : Type 0} (others : List (String Z)) → (length others ≡ 4 → ⊥) → None ≡ gen_words (texts others)
 no_recipe [] other = refl
@@ -61,10 +76,10 @@ no_show (a ∷ b ∷ c ∷ d ∷ []) other = absurd (other (omega arith))
 no_show (a ∷ b ∷ c ∷ d ∷ x ∷ rest) other = refl
 
 pub no_such_command : {Z : Type 0} (words : List (String Z)) (name : String Z) → 0 < length words → name ≡ slice_index_or words 0 name →
-    (string_bytes name ≡ codes "check" → ⊥) → (string_bytes name ≡ codes "certify" → ⊥) → (string_bytes name ≡ codes "convert" → ⊥) → (string_bytes name ≡ codes "cut" → ⊥) → (string_bytes name ≡ codes "show" → ⊥) → (string_bytes name ≡ codes "load" → ⊥) →
-    (string_bytes name ≡ codes "gen" → ⊥) → None ≡ command_of (texts words)
-no_such_command [] name some is check certify convert cut show load gen = absurd (omega (arith, some))
-no_such_command {Z} (word ∷ others) name some is check certify convert cut show load gen =
+    (string_bytes name ≡ codes "check" → ⊥) → (string_bytes name ≡ codes "route" → ⊥) → (string_bytes name ≡ codes "certify" → ⊥) → (string_bytes name ≡ codes "convert" → ⊥) → (string_bytes name ≡ codes "cut" → ⊥) → (string_bytes name ≡ codes "show" → ⊥) → (string_bytes name ≡ codes "load" → ⊥) →
+    (string_bytes name ≡ codes "gen" → ⊥) → (string_bytes name ≡ codes "demo" → ⊥) → None ≡ command_of (texts words)
+no_such_command [] name some is check route certify convert cut show load gen demo = absurd (omega (arith, some))
+no_such_command {Z} (word ∷ others) name some is check route certify convert cut show load gen demo =
     let P : String Z → Type 0 = λ w. None ≡ command_of (texts (w ∷ others)) in
     subst P is (sym (ap (λ (o : Option (List (List ℕ) → Option Command)). option_and_then (λ form. form (texts others)) o)
-    (not_named commands (string_bytes name) (check, (certify, (convert, (cut, (show, (load, (gen, tt))))))))))
+    (not_named commands (string_bytes name) (check, (route, (certify, (convert, (cut, (show, (load, (gen, (demo, tt))))))))))))

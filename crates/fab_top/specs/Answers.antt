@@ -1,5 +1,5 @@
 -- The answer to words and files. A command that is added adds a case to `IsAnswerTo`, and the words of its case.
-use Rattle.std.specs.Prelude.{◌≡◌, ℕ, List, [], Option, None, Some, MatchOption}
+use Rattle.std.specs.Prelude.{◌≡◌, ◌⊎◌, ℕ, List, [], ◌++◌, Option, None, Some, MatchOption}
 use Rattle.fab_model.specs.declared.rows.Place.{Place}
 use Rattle.fab_model.specs.Topology.{Topology}
 use Rattle.fab_tables.specs.declared.end.End.{End}
@@ -18,14 +18,17 @@ use Rattle.fab_netdiscover.specs.Writing.{text_of}
 use Rattle.fab_report.specs.Loads.{loads_of}
 use Rattle.fab_report.specs.Shown.{shown_text}
 use Rattle.fab_report.specs.Recipes.{generated}
+use Rattle.fab_report.specs.Summary.{summary_of}
+use Rattle.fab_top.specs.declared.command.Engine.{Engine}
 use Rattle.fab_top.specs.declared.command.Command.{Command}
-use Rattle.fab_top.specs.declared.command.Command.TheVariants.{Check, Certify, Convert, Cut, Show, Load, Gen}
+use Rattle.fab_top.specs.declared.command.Command.TheVariants.{Check, Route, Certify, Convert, Cut, Show, Load, Gen, Demo}
 use Rattle.fab_top.specs.Words.{command_of}
 use Rattle.fab_top.specs.Usage.{usage_text}
 use Rattle.fab_top.specs.Answer.{Answer, done, no}
 use Rattle.fab_top.specs.Texts.{verdict_text, ring_text, from_text, end_text}
+use Rattle.fab_top.specs.Engines.{Lays, RefusesWith}
 use Rattle.fab_top.specs.Files.{known_place}
-use Rattle.fab_top.specs.ReportTexts.{load_text}
+use Rattle.fab_top.specs.ReportTexts.{load_text, summary_text}
 use Rattle.fab_top.specs.Seen.{Seen, After, WithFabric, WithBoth, WithoutFailed}
 
 -- ---- check
@@ -86,16 +89,34 @@ IsLoadAnswer t p answer = answer ≡ done (load_text t (loads_of t p.tables))
 abbrev pub IsFabricText : Topology → Answer → Type 0
 IsFabricText t answer = answer ≡ done (text_of t)
 
+-- ---- route and demo
+
+-- the answer of the engine's plan, or of its refusal
+abbrev pub AfterEngine : Engine → (Topology → Plan → Answer → Type 0) → Topology → Answer → Type 0
+AfterEngine engine rest t answer = ((p : Plan) × Lays t engine p × rest t p answer) ⊎ RefusesWith t engine answer
+
+abbrev pub IsRouteAnswer : Engine → Topology → Answer → Type 0
+IsRouteAnswer engine t answer = AfterEngine engine IsPlanText t answer
+
+-- the counts of a plan and its verdict
+abbrev pub IsSummary : Topology → Plan → Answer → Type 0
+IsSummary t p answer = (verdict : Verdict) × IsVerdict t p.tables p.lanes verdict × (answer ≡ done (summary_text (summary_of t p) ++ verdict_text t verdict))
+
+abbrev pub IsDemoAnswer : Engine → Topology → Answer → Type 0
+IsDemoAnswer engine t answer = AfterEngine engine IsSummary t answer
+
 -- ---- by command
 
 abbrev pub IsAnswerTo : Seen → Command → Answer → Type 0
 IsAnswerTo w (Check fabric plan) answer = WithBoth w fabric plan IsCheckAnswer answer
+IsAnswerTo w (Route fabric engine) answer = WithFabric w fabric (IsRouteAnswer engine) answer
 IsAnswerTo w (Certify fabric plan) answer = WithBoth w fabric plan IsCertifyAnswer answer
 IsAnswerTo w (Convert fabric plan) answer = WithBoth w fabric plan IsPlanText answer
 IsAnswerTo w (Cut fabric failed) answer = WithFabric w fabric (λ t. WithoutFailed w t failed IsFabricText) answer
 IsAnswerTo w (Show fabric plan from to) answer = WithBoth w fabric plan (IsShowAnswer from.0 to.0) answer
 IsAnswerTo w (Load fabric plan) answer = WithBoth w fabric plan IsLoadAnswer answer
 IsAnswerTo w (Gen recipe) answer = IsFabricText (generated recipe) answer
+IsAnswerTo w (Demo recipe engine) answer = IsDemoAnswer engine (generated recipe) answer
 
 abbrev pub usage : Answer
 usage = record { status = 2; out = []; err = usage_text }

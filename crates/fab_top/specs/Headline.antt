@@ -1,5 +1,5 @@
 -- What the program promises of its answers.
-use Rattle.std.specs.Prelude.{◌≡◌, ◌↔◌, ℕ, ◌≤◌, List, length, None, Some, Ok, MatchOption}
+use Rattle.std.specs.Prelude.{◌≡◌, ◌↔◌, ◌⊎◌, ℕ, ◌≤◌, List, [], ◌++◌, length, Option, None, Some, Ok, MatchOption}
 use Rattle.fab_graph.specs.Walks.{IsAcyclic, Rises}
 use Rattle.fab_model.specs.declared.rows.Place.{Place}
 use Rattle.fab_model.specs.Topology.{Topology}
@@ -16,11 +16,15 @@ use Rattle.fab_check.specs.Free.{IsFreeOfDeadlock}
 use Rattle.fab_certify.specs.Numbered.{IsSound}
 use Rattle.fab_report.specs.declared.recipe.Recipe.{Recipe}
 use Rattle.fab_report.specs.Recipes.{generated}
+use Rattle.fab_report.specs.Summary.{summary_of}
+use Rattle.fab_top.specs.declared.command.Engine.{Engine}
 use Rattle.fab_top.specs.declared.command.Command.{Command}
-use Rattle.fab_top.specs.declared.command.Command.TheVariants.{Check, Certify, Convert, Cut, Show, Load, Gen}
+use Rattle.fab_top.specs.declared.command.Command.TheVariants.{Check, Route, Certify, Convert, Cut, Show, Load, Gen, Demo}
 use Rattle.fab_top.specs.Words.{command_of}
 use Rattle.fab_top.specs.Answer.{Answer}
+use Rattle.fab_top.specs.Engines.{Lays, RefusesWith}
 use Rattle.fab_top.specs.Files.{fabric_limit, fabric_in, plan_in, known_place}
+use Rattle.fab_top.specs.ReportTexts.{summary_text}
 use Rattle.fab_top.specs.Texts.{ok_routes, ok_lanes}
 use Rattle.fab_top.specs.Seen.{Seen, After, WithFabric, WithBoth, WithoutFailed}
 
@@ -93,15 +97,48 @@ WritesTruly t answer = Done answer × IsFabricAgain t answer.out
 abbrev pub GeneratesTruly : Recipe → Answer → Type 0
 GeneratesTruly recipe answer = IsFabric (generated recipe) × WritesTruly (generated recipe) answer
 
+-- ---- route and demo
+
+-- a plan that the check calls good: without lanes its routes reach, and with lanes it is certified
+abbrev pub IsGood : Topology → Plan → Type 0
+IsGood t p = ((p.lanes ≡ None) × Reaches t p.tables) ⊎ IsCertified t p
+
+-- the text, in a file of any name, is taken as the engine's plan, which is good
+abbrev pub IsLaidAgain : Engine → Topology → List ℕ → Type 0
+IsLaidAgain engine t text = (p : Plan) × Lays t engine p × IsGood t p × IsReadAgain t p text
+
+-- a good plan of the engine is written, or else its rule refuses the fabric, and nothing is
+pub record RoutesTruly (engine : Engine) (t : Topology) (answer : Answer) : Type 0 where
+  pub done : Done answer ⊎ RefusesWith t engine answer
+  pub nothing : ¬ Done answer → answer.out ≡ []
+  pub laid : Done answer → IsLaidAgain engine t answer.out
+
+-- the text of the verdict on a good plan
+abbrev pub ok_text : Option LaneTables → List ℕ
+ok_text None = ok_routes
+ok_text (Some l) = ok_lanes
+
+-- the text is that of the counts of the engine's plan, which is good, and of the good verdict
+abbrev pub IsShownOff : Engine → Topology → List ℕ → Type 0
+IsShownOff engine t text = (p : Plan) × Lays t engine p × IsGood t p × (text ≡ summary_text (summary_of t p) ++ ok_text p.lanes)
+
+-- the counts of a good plan are told, or else the engine's rule refuses the fabric, and nothing is
+pub record ShowsOff (engine : Engine) (t : Topology) (answer : Answer) : Type 0 where
+  pub done : Done answer ⊎ RefusesWith t engine answer
+  pub nothing : ¬ Done answer → answer.out ≡ []
+  pub shown : Done answer → IsShownOff engine t answer.out
+
 -- by command
 abbrev pub KeepsHeadlineOf : Seen → Command → Answer → Type 0
 KeepsHeadlineOf w (Check fabric plan) answer = WithBoth w fabric plan ChecksTruly answer
+KeepsHeadlineOf w (Route fabric engine) answer = WithFabric w fabric (RoutesTruly engine) answer
 KeepsHeadlineOf w (Certify fabric plan) answer = WithBoth w fabric plan CertifiesTruly answer
 KeepsHeadlineOf w (Convert fabric plan) answer = WithBoth w fabric plan ConvertsTruly answer
 KeepsHeadlineOf w (Cut fabric failed) answer = WithFabric w fabric (λ t. WithoutFailed w t failed WritesTruly) answer
 KeepsHeadlineOf w (Show fabric plan from to) answer = WithBoth w fabric plan (ShowsTruly from.0 to.0) answer
 KeepsHeadlineOf w (Load fabric plan) answer = WithBoth w fabric plan IsDone answer
 KeepsHeadlineOf w (Gen recipe) answer = GeneratesTruly recipe answer
+KeepsHeadlineOf w (Demo recipe engine) answer = ShowsOff engine (generated recipe) answer
 
 abbrev pub KeepsHeadline : Seen → Answer → Type 0
 KeepsHeadline w answer = MatchOption (command_of w.words) (Unit {0}) (λ command. KeepsHeadlineOf w command answer)

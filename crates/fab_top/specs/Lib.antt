@@ -2,6 +2,7 @@ pub mod Words
 pub mod ReadWords
 pub mod Usage
 pub mod Answer
+pub mod Engines
 pub mod Texts
 pub mod ReportTexts
 pub mod FaultTexts

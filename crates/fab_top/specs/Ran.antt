@@ -5,7 +5,7 @@ use Rattle.std.specs.Prelude.{◌≡◌, ℕ, ◌<◌, ◌≤◌, ◌⊎◌, Lis
 use Rattle.std.specs.Option.{option_map_or}
 use Rattle.fab_io.specs.Faults.{Rose}
 use Rattle.fab_top.specs.declared.command.Command.{Command}
-use Rattle.fab_top.specs.declared.command.Command.TheVariants.{Check, Certify, Convert, Cut, Show, Load, Gen}
+use Rattle.fab_top.specs.declared.command.Command.TheVariants.{Check, Route, Certify, Convert, Cut, Show, Load, Gen, Demo}
 use Rattle.fab_top.specs.Words.{command_of}
 use Rattle.fab_top.specs.Answer.{Answer, unread}
 use Rattle.fab_top.specs.Seen.{seen, seen_failing, word_at}
@@ -26,12 +26,14 @@ pub record Outside : Type 0 where
 -- the places of the words that name files, in their order
 abbrev pub files_of : Command → List ℕ
 files_of (Check fabric plan) = fabric ∷ plan ∷ []
+files_of (Route fabric engine) = fabric ∷ []
 files_of (Certify fabric plan) = fabric ∷ plan ∷ []
 files_of (Convert fabric plan) = fabric ∷ plan ∷ []
 files_of (Cut fabric failed) = fabric ∷ failed ∷ []
 files_of (Show fabric plan from to) = fabric ∷ plan ∷ []
 files_of (Load fabric plan) = fabric ∷ plan ∷ []
 files_of (Gen recipe) = []
+files_of (Demo recipe engine) = []
 
 abbrev pub files_named : List (List ℕ) → List ℕ
 files_named words = option_map_or files_of (command_of words) []

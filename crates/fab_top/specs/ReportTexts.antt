@@ -3,6 +3,7 @@ use Rattle.std.specs.Prelude.{ℕ, List, ◌++◌, flat_map, slice_index, Some, 
 use Rattle.std.specs.List.{enumerate_from}
 use Rattle.fab_model.specs.declared.rows.ChannelRow.{ChannelRow}
 use Rattle.fab_model.specs.Topology.{Topology}
+use Rattle.fab_report.specs.declared.rows.SummaryRow.{SummaryRow}
 use Rattle.fab_report.specs.Loads.{greatest}
 use Rattle.fab_top.specs.Texts.{channel_row_text}
 
@@ -15,3 +16,20 @@ load_line t loads numbered = channel_row_text t (Some numbered.1) ++ codes " " +
 -- the channels by number, and the greatest load
 abbrev pub load_text : Topology → List ℕ → List ℕ
 load_text t loads = flat_map (load_line t loads) (enumerate_from 0 t.channels) ++ codes "greatest " ++ decimal (greatest loads) ++ codes "\n"
+
+-- ---- the counts of a plan
+
+abbrev pub count_line : List ℕ → ℕ → List ℕ
+count_line word n = word ++ codes " " ++ decimal n ++ codes "\n"
+
+abbrev pub summary_text : SummaryRow → List ℕ
+summary_text row =
+    count_line (codes "switches") row.switches
+    ++ count_line (codes "terminals") row.terminals
+    ++ count_line (codes "channels") row.channels
+    ++ count_line (codes "lids") row.lids
+    ++ count_line (codes "lanes") row.lanes
+    ++ count_line (codes "numbers") row.numbers
+    ++ count_line (codes "greatest number") row.greatest_number
+    ++ count_line (codes "hops") row.hops
+    ++ count_line (codes "greatest load") row.greatest_load

@@ -1,13 +1,16 @@
 -- The grammar of the words, as far as it is built:
 --     check FABRIC PLAN
+--     route minhop|dor FABRIC
 --     certify FABRIC PLAN
 --     convert FABRIC PLAN
 --     cut FABRIC FAILED
 --     show FABRIC PLAN SRC DST
 --     load FABRIC PLAN
 --     gen KIND A B SEED
+--     demo KIND A B SEED ENGINE N
 -- A file's word is not empty and does not begin with two dashes. A file is named by the place of its word. Numbers are
--- decimal, without leading zeros. A LID is a decimal number, or `0x` and 1 to 4 hexadecimal digits.
+-- decimal, without leading zeros. A LID is a decimal number, or `0x` and 1 to 4 hexadecimal digits. N is 0 for an engine that takes no
+-- lane count.
 use Rattle.std.specs.Prelude.{ℕ, ◌-◌, ◌^◌, Bool, false, ◌&&◌, not, List, [], ◌∷◌, length, map, Option, None, Some, option_map, option_and_then, find, nat_lt, ◌==◌, if◌then◌else◌, codes, String}
 use Rattle.std.specs.Bool.{then_some}
 use Rattle.std.specs.List.{starts_with}
@@ -20,6 +23,10 @@ use Rattle.fab_report.specs.declared.recipe.Kind.{Kind}
 use Rattle.fab_report.specs.declared.recipe.Kind.TheVariants as kind
 use Rattle.fab_report.specs.declared.recipe.Recipe.{Recipe}
 use Rattle.fab_report.specs.Recipes.{fits}
+use Rattle.fab_top.specs.declared.command.Engine.{Engine}
+use Rattle.fab_top.specs.declared.command.Engine.TheVariants as engine
+use Rattle.fab_top.specs.declared.engine_words.Asked.{Asked}
+use Rattle.fab_top.specs.declared.engine_words.Asked.TheVariants.{Nothing, Lanes}
 use Rattle.fab_top.specs.declared.command.Command.{Command}
 use Rattle.fab_top.specs.declared.command.Command.TheVariants as command
 
@@ -44,6 +51,38 @@ lid_in word = option_or (hex 4 word) (number_in 65535 word)
 -- what a table has for a word
 abbrev pub named : {A : Type 0} → List (List ℕ × A) → List ℕ → Option A
 named table word = option_map (λ row. row.1) (find (λ row. bytes_eq row.0 word) table)
+
+-- ---- engines, by name and by what they are asked for: nothing, or so many lanes
+
+abbrev pub bare : Engine → Asked → Option Engine
+bare one Nothing = Some one
+bare one (Lanes count) = None
+
+abbrev pub engine_forms : List (List ℕ × (Asked → Option Engine))
+engine_forms =
+    (codes "minhop", bare engine.MinHop)
+    ∷ (codes "dor", bare engine.Dor)
+    ∷ []
+
+abbrev pub engine_in : List ℕ → Asked → Option Engine
+engine_in name asked = option_and_then (λ form. form asked) (named engine_forms name)
+
+-- a lane count, 1 to 15
+abbrev pub if_not_0 : ℕ → Option ℕ
+if_not_0 n = then_some (not (n == 0)) n
+
+abbrev pub lanes_in : List ℕ → Option ℕ
+lanes_in word = option_and_then if_not_0 (number_in 15 word)
+
+-- by the words behind a fabric
+abbrev pub asked_behind : List (List ℕ) → Option Asked
+asked_behind [] = Some Nothing
+asked_behind (flag ∷ count ∷ []) = if bytes_eq flag (codes "--lanes") then option_map Lanes (lanes_in count) else None
+asked_behind _ = None
+
+-- by the last word of a demonstration
+abbrev pub asked_by : List ℕ → Option Asked
+asked_by count = if bytes_eq count (codes "0") then Some Nothing else option_map Lanes (lanes_in count)
 
 -- ---- recipes
 
@@ -81,11 +120,27 @@ abbrev pub gen_words : List (List ℕ) → Option Command
 gen_words (word ∷ a ∷ b ∷ seed ∷ []) = option_map command.Gen (recipe_in word a b seed)
 gen_words _ = None
 
+abbrev pub route_words : List (List ℕ) → Option Command
+route_words (name ∷ fabric ∷ others) = if is_file fabric then option_map (command.Route 2) (option_and_then (engine_in name) (asked_behind others)) else None
+route_words _ = None
+
+abbrev pub demo_words : List (List ℕ) → Option Command
+demo_words (word ∷ a ∷ b ∷ seed ∷ name ∷ count ∷ []) =
+    option_and_then (λ recipe. option_map (command.Demo recipe) (option_and_then (engine_in name) (asked_by count))) (recipe_in word a b seed)
+demo_words _ = None
+
 abbrev pub commands : List (List ℕ × (List (List ℕ) → Option Command))
 commands =
-    (codes "check", two_files command.Check) ∷ (codes "certify", two_files command.Certify) ∷ (codes "convert", two_files command.Convert)
+    (codes "check", two_files command.Check)
+    ∷ (codes "route", route_words)
+    ∷ (codes "certify", two_files command.Certify)
+    ∷ (codes "convert", two_files command.Convert)
     ∷ (codes "cut", two_files command.Cut)
-    ∷ (codes "show", show_words) ∷ (codes "load", two_files command.Load) ∷ (codes "gen", gen_words) ∷ []
+    ∷ (codes "show", show_words)
+    ∷ (codes "load", two_files command.Load)
+    ∷ (codes "gen", gen_words)
+    ∷ (codes "demo", demo_words)
+    ∷ []
 
 -- the command that the words spell, if they are in the grammar
 abbrev pub command_of : List (List ℕ) → Option Command

@@ -4,6 +4,15 @@
 use fab_model::Lid;
 use fab_report::Recipe;
 
+/// A routing engine, with what it is asked for.
+#[derive(Clone, Copy, Debug, PartialEq, Eq)]
+pub enum Engine {
+    /// Shortest routes, balanced at each switch by how many terminals' LIDs go by each port.
+    MinHop,
+    /// Shortest routes by the least port: dimension-order routing where port numbers stand for dimensions.
+    Dor,
+}
+
 /// What the words ask for. A file is named by the place of its word in the list of words, from 0.
 #[derive(Clone, Copy, Debug, PartialEq, Eq)]
 pub enum Command {
@@ -11,6 +20,11 @@ pub enum Command {
     Check {
         fabric: usize,
         plan: usize,
+    },
+    /// The plan that an engine lays for a fabric.
+    Route {
+        fabric: usize,
+        engine: Engine,
     },
     /// A plan of a fabric with the numbers that certify it, or the first fault or the ring that forbids them.
     Certify {
@@ -42,5 +56,10 @@ pub enum Command {
     /// The fabric of a recipe, which fits.
     Gen {
         recipe: Recipe,
+    },
+    /// The counts of the plan that an engine lays for the fabric of a recipe, which fits.
+    Demo {
+        recipe: Recipe,
+        engine: Engine,
     },
 }

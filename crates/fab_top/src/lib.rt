@@ -3,19 +3,22 @@
 
 mod command;
 mod commands;
+mod engine_words;
+mod engines;
 mod fault_texts;
 mod files;
 mod laws;
 mod outcome;
 mod outputs;
 mod report_texts;
+mod routing;
 #[cfg(test)]
 mod tests;
 mod texts;
 mod top_call;
 mod words;
 
-pub use command::Command;
+pub use command::{Command, Engine};
 pub use laws::{answer_exists, answers_keep_headline, one_answer, status_is_small};
 pub use top_call::run;
 pub use words::{WordsFault, read_words};

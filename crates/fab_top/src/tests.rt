@@ -138,3 +138,45 @@ fn a_fabric_without_failed_cables_is_as_it_was(rt: HostRuntime) -> Result<(), Fa
     assert_eq!(rt; left.bytes(), ring.bytes());
     Ok(())
 }
+
+#[test]
+fn what_is_routed_is_good(rt: HostRuntime) -> Result<(), Fail> {
+    let alloc = rt.alloc();
+    for engine in ["minhop", "dor"] {
+        let mut shelf = shelf_of_line(alloc)?;
+        let mut plan = MemorySink::new(alloc);
+        let mut verdict = MemorySink::new(alloc);
+        assert_eq!(rt;
+            status(alloc, &mut shelf, &mut plan, &["route", engine, "LINE"])?,
+            0
+        );
+        shelf.add("P", plan.bytes())?;
+        assert_eq!(rt;
+            status(alloc, &mut shelf, &mut verdict, &["check", "LINE", "P"])?,
+            0
+        );
+        assert_eq!(rt; verdict.bytes(), b"ok: routes\n".as_slice());
+    }
+    Ok(())
+}
+
+#[test]
+fn the_counts_of_a_routed_ring(rt: HostRuntime) -> Result<(), Fail> {
+    let alloc = rt.alloc();
+    let mut shelf = MemoryShelf::new(alloc);
+    let mut counts = MemorySink::new(alloc);
+    assert_eq!(rt;
+        status(
+            alloc,
+            &mut shelf,
+            &mut counts,
+            &["demo", "ring", "5", "1", "0", "dor", "0"]
+        )?,
+        0
+    );
+    assert_eq!(rt;
+        counts.bytes(),
+        b"switches 5\nterminals 5\nchannels 10\nlids 10\nlanes 0\nnumbers 0\ngreatest number 0\nhops 60\ngreatest load 6\nok: routes\n".as_slice()
+    );
+    Ok(())
+}

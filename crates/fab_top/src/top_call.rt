@@ -13,6 +13,7 @@ use crate::commands::{certify, check, convert, cut, generate, load, show};
 use crate::fault_texts::unread_text;
 use crate::outcome::{Outcome, Stop};
 use crate::outputs::{put_answer, put_outcome};
+use crate::routing::{demo, route};
 use crate::words::{WordsFault, read_words};
 use fab_io::{PutFault, Shelf, Sink};
 use std::alloc::Global;
@@ -57,6 +58,7 @@ fn obey<F: Shelf>(
 {
     match command {
         Command::Check { fabric, plan } => check(alloc, words, shelf, fabric, plan),
+        Command::Route { fabric, engine } => route(alloc, words, shelf, fabric, engine),
         Command::Certify { fabric, plan } => certify(alloc, words, shelf, fabric, plan),
         Command::Convert { fabric, plan } => convert(alloc, words, shelf, fabric, plan),
         Command::Cut { fabric, failed } => cut(alloc, words, shelf, fabric, failed),
@@ -68,6 +70,7 @@ fn obey<F: Shelf>(
         } => show(alloc, words, shelf, fabric, plan, from, to),
         Command::Load { fabric, plan } => load(alloc, words, shelf, fabric, plan),
         Command::Gen { recipe } => generate(alloc, recipe),
+        Command::Demo { recipe, engine } => demo(alloc, recipe, engine),
     }
 }
 

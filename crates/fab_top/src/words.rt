@@ -9,6 +9,7 @@ ghost use Rattle.fab_text.specs.Readings.{Gives};
 ghost use Rattle.fab_model.specs.Topology.{lid_id};
 
 use crate::command::Command;
+use crate::engine_words::{demo_words, route_words};
 use fab_model::Lid;
 use fab_report::{Kind, Recipe};
 use fab_text::{read_dec, read_hex};
@@ -26,7 +27,7 @@ pub enum WordsFault {
 }
 
 /// A file's word is not empty and does not begin with two dashes.
-fn is_file(word: &str) -> bool
+pub(crate) fn is_file(word: &str) -> bool
     ensures { result ≡ is_file word.now }
 {
     !word.is_empty() && !word.starts_with("--")
@@ -40,7 +41,7 @@ fn has_leading_zero(word: &str) -> bool
 
 /// A decimal number of at most a value, without leading zeros.
 #[tactic(auto, using(crate::proofs::LowNumbers::number_is))]
-fn number_in(greatest: u64, word: &str) -> Option<u64>
+pub(crate) fn number_in(greatest: u64, word: &str) -> Option<u64>
     ensures number { result ≡ number_in greatest word.now }
     ensures below { IfSome result (λ number. number ≤ greatest) }
 {
@@ -135,7 +136,7 @@ fn kind_in(word: &str) -> Option<Kind>
 }
 
 /// A recipe that fits.
-fn recipe_in(kind: &str, a: &str, b: &str, seed: &str) -> Option<Recipe>
+pub(crate) fn recipe_in(kind: &str, a: &str, b: &str, seed: &str) -> Option<Recipe>
     ensures { result ≡ recipe_in kind.now a.now b.now seed.now }
 {
     let kind = kind_in(kind)?;
@@ -167,6 +168,7 @@ fn command_of(words: &[String]) -> Option<Command>
     };
     match name.as_str() {
         "check" => on_two_files(others, Command::Check { fabric: 1, plan: 2 }),
+        "route" => route_words(others),
         "certify" => on_two_files(others, Command::Certify { fabric: 1, plan: 2 }),
         "convert" => on_two_files(others, Command::Convert { fabric: 1, plan: 2 }),
         "cut" => on_two_files(
@@ -179,6 +181,7 @@ fn command_of(words: &[String]) -> Option<Command>
         "show" => show_words(others),
         "load" => on_two_files(others, Command::Load { fabric: 1, plan: 2 }),
         "gen" => gen_words(others),
+        "demo" => demo_words(others),
         _ => None,
     }
 }

@@ -1,12 +1,5 @@
-use Rattle.std.proofs.Common.{subst, sym}
-use Rattle.fab_report.specs.Recipes.{generated}
-use Rattle.fab_top.specs.declared.command.Command.{Command}
-use Rattle.fab_top.specs.Answers.{IsFabricText}
-use Rattle.fab_top.specs.Headline.{GeneratesTruly}
-use Rattle.fab_top.specs.Outcomes.{Obeys}
-use Rattle.fab_top.specs.Words.{texts}
-use Rattle.fab_top.proofs.Concluding.{found}
 use Rattle.fab_top.proofs.SpelledCommands.{is_spelled}
+use Rattle.fab_top.proofs.WithoutFiles.{gen_obeyed, demo_obeyed}
 use Rattle.fab_top.proofs.top_call.obey.Goals as goal
 
 pub check-requires-clause-fabric : goal.check-requires-clause-fabric
@@ -14,6 +7,9 @@ check-requires-clause-fabric g c = (is_spelled c.args.words.now _ _ c.requires c
 
 pub check-requires-clause-plan : goal.check-requires-clause-plan
 check-requires-clause-plan g c = (is_spelled c.args.words.now _ _ c.requires c.in-Check.is).places.1.0
+
+pub route-requires : goal.route-requires
+route-requires g c = (is_spelled c.args.words.now _ _ c.requires c.in-Route.is).places.0
 
 pub certify-requires-clause-fabric : goal.certify-requires-clause-fabric
 certify-requires-clause-fabric g c = (is_spelled c.args.words.now _ _ c.requires c.in-Certify.is).places.0
@@ -48,7 +44,11 @@ load-requires-clause-plan g c = (is_spelled c.args.words.now _ _ c.requires c.in
 pub generate-requires : goal.generate-requires
 generate-requires g c = (is_spelled c.args.words.now _ _ c.requires c.in-Gen.is).recipe.fits
 
+pub demo-requires : goal.demo-requires
+demo-requires g c = (is_spelled c.args.words.now _ _ c.requires c.in-Demo.is).recipe.fits
+
 pub returns-in-Gen : goal.returns-in-Gen
-returns-in-Gen g c =
-    let IsObeyed : Command → Type 0 = λ command. Obeys command (texts c.args.words.now) (g.F.Shelf.told c.args.shelf.now) (g.F.Shelf.faults c.args.shelf.now) (g.F.Shelf.faults c.args.shelf.now) c.generate.result in
-    subst IsObeyed (sym c.in-Gen.is) (found (λ w. IsFabricText (generated c.in-Gen.recipe)) (λ w. GeneratesTruly c.in-Gen.recipe) _ _ _ c.generate.result c.generate.ensures)
+returns-in-Gen g c = gen_obeyed c.args.command c.in-Gen.recipe _ _ _ _ c.in-Gen.is c.generate.ensures
+
+pub returns-in-Demo : goal.returns-in-Demo
+returns-in-Demo g c = demo_obeyed c.args.command c.in-Demo.recipe c.in-Demo.engine _ _ _ _ c.in-Demo.is c.demo.ensures

@@ -1,0 +1,35 @@
+-- Words of the commands that route.
+use Rattle.std.proofs.Common.{◌≡◌, List, [], ◌∷◌, codes, refl}
+use Rattle.std.specs.Prelude.{None, Some}
+use Rattle.fab_report.specs.declared.recipe.Kind.TheVariants.{Tree}
+use Rattle.fab_top.specs.declared.command.Command.TheVariants.{Route, Demo}
+use Rattle.fab_top.specs.declared.command.Engine.TheVariants.{MinHop, Dor}
+use Rattle.fab_top.specs.Words.{command_of}
+
+route_dor : command_of (codes "route" ∷ codes "dor" ∷ codes "F" ∷ []) ≡ Some (Route 2 Dor)
+route_dor = refl
+
+dor_takes_no_lanes : command_of (codes "route" ∷ codes "dor" ∷ codes "F" ∷ codes "--lanes" ∷ codes "2" ∷ []) ≡ None
+dor_takes_no_lanes = refl
+
+no_such_engine : command_of (codes "route" ∷ codes "ftree" ∷ codes "F" ∷ []) ≡ None
+no_such_engine = refl
+
+a_flag : command_of (codes "route" ∷ codes "dor" ∷ codes "--F" ∷ []) ≡ None
+a_flag = refl
+
+no_fabric : command_of (codes "route" ∷ codes "minhop" ∷ []) ≡ None
+no_fabric = refl
+
+demo_min_hop : command_of (codes "demo" ∷ codes "tree" ∷ codes "16" ∷ codes "8" ∷ codes "0" ∷ codes "minhop" ∷ codes "0" ∷ [])
+    ≡ Some (Demo (record { kind = Tree; a = 16; b = 8; seed = 0 }) MinHop)
+demo_min_hop = refl
+
+dor_takes_0 : command_of (codes "demo" ∷ codes "tree" ∷ codes "16" ∷ codes "8" ∷ codes "0" ∷ codes "dor" ∷ codes "1" ∷ []) ≡ None
+dor_takes_0 = refl
+
+no_count : command_of (codes "demo" ∷ codes "tree" ∷ codes "16" ∷ codes "8" ∷ codes "0" ∷ codes "dor" ∷ []) ≡ None
+no_count = refl
+
+recipe_too_small : command_of (codes "demo" ∷ codes "ring" ∷ codes "2" ∷ codes "1" ∷ codes "0" ∷ codes "dor" ∷ codes "0" ∷ []) ≡ None
+recipe_too_small = refl

@@ -1,0 +1,48 @@
+//! The engines: what each of them lays for a fabric. The time and memory are those of the engine's crate.
+ghost use Rattle.std.specs.Prelude.{◌≡◌, None};
+ghost use Rattle.fab_model.specs.WellFormed.{IsFabric};
+ghost use Rattle.fab_top.specs.declared.engines.EngineAnswer.TheVariants as engine_answer;
+ghost use Rattle.fab_top.specs.Outcomes.{LaysRightly};
+
+use crate::command::Engine;
+use crate::outcome::Stop;
+use fab_balance::{dor, minhop};
+use fab_hops::Hops;
+use fab_model::Fabric;
+use fab_tables::{Plan, Tables};
+use std::alloc::Global;
+
+/// What an engine makes of a fabric.
+#[derive(Drop)]
+pub(crate) enum EngineAnswer {
+    /// Its plan.
+    Plan(Plan),
+    /// Its refusal: the line for the error output.
+    No(Vec<u8>),
+}
+
+/// A plan without lanes.
+fn without_lanes(tables: Tables) -> EngineAnswer
+    ensures { result ≡ engine_answer.Plan (record { tables = tables; lanes = None }) }
+{
+    EngineAnswer::Plan(Plan {
+        tables,
+        lanes: None,
+    })
+}
+
+/// What an engine makes of a fabric.
+pub(crate) fn laid(alloc: Global, fabric: &Fabric, engine: Engine) -> Result<EngineAnswer, Stop>
+    ensures { LaysRightly fabric.now engine result }
+{
+    match engine {
+        Engine::MinHop => {
+            let hops = Hops::of(alloc, fabric)?;
+            Ok(without_lanes(minhop(alloc, fabric, &hops)?))
+        }
+        Engine::Dor => {
+            let hops = Hops::of(alloc, fabric)?;
+            Ok(without_lanes(dor(alloc, fabric, &hops)?))
+        }
+    }
+}
