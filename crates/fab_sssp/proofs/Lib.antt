@@ -1,0 +1,16 @@
+pub mod Examples
+pub mod Sums
+pub mod SumsBelow
+pub mod TreePassing
+pub mod WeightBounds
+pub mod PassingCounts
+pub mod WeightsSame
+pub mod OneTable
+pub mod LeastWalks
+pub mod RoutesLeast
+pub mod Turns
+pub mod LaidTrees
+pub mod ShortWalks
+pub mod WeightsInRange
+pub mod Settled
+pub mod FallingTrees

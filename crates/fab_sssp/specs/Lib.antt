@@ -1,0 +1,6 @@
+pub mod WeightTables
+pub mod Passing
+pub mod LeastWeight
+pub mod Carried
+pub mod LeastWeightTables
+pub mod Laws

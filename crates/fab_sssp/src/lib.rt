@@ -1,0 +1,11 @@
+//! Weights of channels, distances, and single-source shortest path tables.
+#![tactic(auto)]
+
+mod laws;
+mod passing;
+mod weights;
+
+pub use laws::{
+    least_weight_reaches, one_distance, one_least_weight_tables, routes_are_least, sums_fit,
+};
+pub use weights::Weights;
