@@ -2,6 +2,7 @@ pub mod Examples
 pub mod Sums
 pub mod SumsBelow
 pub mod TreePassing
+pub mod Nearing
 pub mod WeightBounds
 pub mod PassingCounts
 pub mod WeightsSame

@@ -1,8 +1,8 @@
 -- Distances are what a search has found once nothing can be relaxed, and they tell which ports begin walks of least weight.
-use Rattle.std.proofs.Common.{◌≡◌, ℕ, zero, suc, ◌+◌, ◌<◌, ◌≤◌, ◌⊎◌, inl, inr, List, [], ◌∷◌, length, refl, sym, ◌∙◌, ap, subst, arith, Option, Some, None}
+use Rattle.std.proofs.Common.{◌≡◌, ℕ, zero, suc, ◌+◌, ◌<◌, ◌≤◌, inl, inr, List, [], ◌∷◌, length, refl, sym, ◌∙◌, ap, subst, arith, Option, Some, None}
 use Rattle.std.specs.Prelude.{slice_get, MatchOption}
 use Rattle.std.proofs.lemmas.List.Sums.{sum_by-cons}
-use Rattle.std.proofs.lemmas.Option.{same_Some, none-some, slice_get_within}
+use Rattle.std.proofs.lemmas.Option.{same_Some, none-some, get_or_from_slice_get}
 use Rattle.fab_model.specs.declared.rows.ChannelRow.{ChannelRow}
 use Rattle.fab_model.specs.Topology.{Topology, channel_at}
 use Rattle.fab_model.specs.Connected.{AreConnected, LeadsAlong}
@@ -11,21 +11,18 @@ use Rattle.fab_tables.specs.Route.{tip, tip_of_row}
 use Rattle.fab_tables.specs.Trees.{LeavesSwitch}
 use Rattle.fab_tables.proofs.Paths.FallingRoutes.{channel_found}
 use Rattle.fab_sssp.specs.LeastWeight.{weight_along, IsDistance, AreDistances, BeginsLeastWalk}
+use Rattle.fab_sssp.specs.Nearing.{IsFound, IsAttained}
 use Rattle.fab_sssp.proofs.OneTable.{one_distance}
 use Rattle.fab_sssp.proofs.LeastWalks.{least_rest}
-
--- a number was found for the switch
-abbrev pub IsFound : List (Option ℕ) → ℕ → ℕ → Type 0
-IsFound found s n = slice_get found s ≡ Some (Some n)
 
 -- 0 was found for the destination; each other number comes along a channel; and no channel gives a smaller one
 pub record AreSettled (t : Topology) (weight : ℕ → ℕ) (to : ℕ) (found : List (Option ℕ)) : Type 0 where
   pub each_switch : length found ≡ length t.switches
   pub at_to : IsFound found to 0
-  pub attained : (s n : ℕ) → IsFound found s n → ((s ≡ to) × (n ≡ 0)) ⊎ ((c m : ℕ) × LeavesSwitch t c s × IsFound found (tip t c) m × (n ≡ weight c + m))
+  pub attained : (s n : ℕ) → IsFound found s n → IsAttained t weight to found s n
   pub relaxed : (s c m : ℕ) → LeavesSwitch t c s → IsFound found (tip t c) m → (n : ℕ) × IsFound found s n × (n ≤ weight c + m)
 
-module _ (t : Topology) (weight : ℕ → ℕ) (to : ℕ) (found : List (Option ℕ)) (positive : (c : ℕ) → c < length t.channels → 0 < weight c) (settled : AreSettled t weight to found) where
+module _ (t : Topology) (weight : ℕ → ℕ) (to : ℕ) (found : List (Option ℕ)) (settled : AreSettled t weight to found) where
   -- no walk weighs less than what was found
   lower : (cs : List ℕ) (s : ℕ) → LeadsAlong t s cs to → (n : ℕ) × IsFound found s n × (n ≤ weight_along weight cs)
   lower [] s leads = (0, subst (λ x. IsFound found x 0) (sym leads) settled.at_to, omega arith)
@@ -42,11 +39,11 @@ module _ (t : Topology) (weight : ℕ → ℕ) (to : ℕ) (found : List (Option 
   upper zero s n h at = absurd (omega (arith, h))
   upper (suc k) s n h at = go (settled.attained s n at) (λ x m less y. upper k x m less y)
     where
-      go : ((s ≡ to) × (n ≡ 0)) ⊎ ((c m : ℕ) × LeavesSwitch t c s × IsFound found (tip t c) m × (n ≡ weight c + m)) →
+      go : IsAttained t weight to found s n →
           ((x m : ℕ) → m < k → IsFound found x m → (cs : List ℕ) × LeadsAlong t x cs to × (weight_along weight cs ≡ m)) → (cs : List ℕ) × LeadsAlong t s cs to × (weight_along weight cs ≡ n)
       go (inl here) more = ([], here.0, sym here.1)
       go (inr further) more =
-          let rest : (cs : List ℕ) × LeadsAlong t (tip t further.0) cs to × (weight_along weight cs ≡ further.1) = more (tip t further.0) further.1 (omega (arith, further.4, positive further.0 (slice_get_within t.channels further.0 further.2.0 further.2.1), h)) further.3 in (
+          let rest : (cs : List ℕ) × LeadsAlong t (tip t further.0) cs to × (weight_along weight cs ≡ further.1) = more (tip t further.0) further.1 (omega (arith, further.5, h)) further.3 in (
             further.0 ∷ rest.0,
             (further.2.0, further.2.1, further.2.2, subst (λ x. LeadsAlong t x rest.0 to) (ap tip_of_row further.2.1) rest.1),
             omega (arith, sum_by-cons weight further.0 rest.0, rest.2, further.4),
@@ -59,7 +56,7 @@ module _ (t : Topology) (weight : ℕ → ℕ) (to : ℕ) (found : List (Option 
     where
       no_less : (others cs : List ℕ) → weight_along weight cs ≡ n → (m : ℕ) × IsFound found s m × (m ≤ weight_along weight others) → weight_along weight cs ≤ weight_along weight others
       no_less others cs is low =
-          let same : n ≡ low.0 = same_Some n low.0 (same_Some (Some n) (Some low.0) (sym at ∙ low.1)) in
+          let same : n ≡ low.0 = same_Some n low.0 (sym at ∙ low.1) in
           omega (arith, is, same, low.2)
 
   pub settled_distances : AreDistances t weight to found
@@ -69,8 +66,8 @@ module _ (t : Topology) (weight : ℕ → ℕ) (to : ℕ) (found : List (Option 
       each s None at = λ joined.
           let walk : (cs : List ℕ) × LeadsAlong t s cs to × (length cs ≡ joined.0) = channels_of_walk t joined.0 s to joined.1 in
           let low : (n : ℕ) × IsFound found s n × (n ≤ weight_along weight walk.0) = lower walk.0 s walk.1 in
-          none-some low.0 (same_Some None (Some low.0) (sym at ∙ low.1))
-      each s (Some n) at = settled_distance s n at
+          none-some low.0 (sym (get_or_from_slice_get found s None None at) ∙ low.1)
+      each s (Some n) at = settled_distance s n (get_or_from_slice_get found s (Some n) None at)
 
 -- the channel of a port begins a walk of least weight exactly where its weight is the difference of the distances
 pub begins_by_distances : (t : Topology) (weight : ℕ → ℕ) (s to port c m n : ℕ) → channel_at t s port ≡ Some c → IsDistance t weight s to n → IsDistance t weight (tip t c) to m → n ≡ weight c + m →

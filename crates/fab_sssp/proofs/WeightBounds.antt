@@ -1,15 +1,17 @@
 -- Weights stay below their bounds: the start weight, and what a tree adds.
-use Rattle.std.proofs.Common.{◌≡◌, ℕ, ◌+◌, ◌*◌, ◌<◌, ◌≤◌, List, length, get_or, arith}
-use Rattle.std.specs.Prelude.{All, slice_index}
+use Rattle.std.proofs.Common.{◌≡◌, ℕ, ◌+◌, ◌*◌, ◌<◌, ◌≤◌, ◌⊎◌, inl, inr, List, length, get_or, slice_get, Some, arith}
+use Rattle.std.specs.Prelude.{slice_index}
 use Rattle.std.proofs.Math.Nat.{mul-le-mul_right, mul-le-mul_left}
-use Rattle.std.proofs.lemmas.List.{get_or_default}
+use Rattle.std.proofs.lemmas.List.{get_or_default, get_or_past}
 use Rattle.std.proofs.lemmas.List.Elements.{All-replicate}
+use Rattle.std.proofs.lemmas.Option.{get_or_from_slice_get}
 use Rattle.fab_model.specs.Topology.{Topology, lids_of}
 use Rattle.fab_model.specs.Faults.{switch_limit, lid_limit}
 use Rattle.fab_model.specs.WellFormed.{IsWellFormed}
 use Rattle.fab_model.proofs.Order.{lids_are_counted}
 use Rattle.fab_tables.specs.TreeWalks.{terminals_through}
 use Rattle.fab_sssp.specs.WeightTables.{WeightTable, weight_of, start_weight, start_weights, greatest_weight, AreWeights}
+use Rattle.fab_sssp.specs.Nearing.{weight_limit}
 use Rattle.fab_sssp.proofs.PassingCounts.{through_few}
 
 product_small : (s t l : ℕ) → s ≤ switch_limit → t ≤ lid_limit → l ≤ lid_limit → s * t * l ≤ switch_limit * lid_limit * lid_limit
@@ -41,5 +43,19 @@ raised_kept t tree w raised switches good kept few all_old all_new adds = record
 }
 
 -- no weight is greater
-pub weight_small : (w : WeightTable) → AreWeights w → All (λ n. n < 2199023255552) w.weights
-weight_small w kept = λ k d low. omega (arith, (kept.each k d low).1, kept.few)
+pub weight_within : (w : WeightTable) → AreWeights w → (c : ℕ) → weight_of w c ≤ weight_limit
+weight_within w kept c = go low_or_high
+  where
+    low_or_high : (c < length w.weights) ⊎ (length w.weights ≤ c)
+    low_or_high = grind (arith)
+
+    go : (c < length w.weights) ⊎ (length w.weights ≤ c) → weight_of w c ≤ weight_limit
+    go (inl h) = omega (arith, (kept.each c 0 h).1, kept.few)
+    go (inr h) = omega (arith, get_or_past w.weights c 0 h)
+
+-- what is read of them
+pub weight_read : (w : WeightTable) (c n : ℕ) → slice_get w.weights c ≡ Some n → weight_of w c ≡ n
+weight_read w c n read = get_or_from_slice_get w.weights c n 0 read
+
+pub read_within : (w : WeightTable) (c n : ℕ) → AreWeights w → slice_get w.weights c ≡ Some n → n ≤ weight_limit
+read_within w c n kept read = omega (arith, weight_within w kept c, weight_read w c n read)

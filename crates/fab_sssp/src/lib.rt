@@ -3,9 +3,11 @@
 
 mod laws;
 mod passing;
+mod search;
 mod weights;
 
 pub use laws::{
     least_weight_reaches, one_distance, one_least_weight_tables, routes_are_least, sums_fit,
 };
+pub use search::distances;
 pub use weights::Weights;

@@ -4,7 +4,7 @@
 //! Memory: a number of 64 bits for each channel, and two of 32 for each switch, as room to sum terminals along a tree.
 ghost use Rattle.std.specs.Prelude.{◌≡◌, ℕ, ◌+◌, ◌<◌, length, Some, slice_get, IfOk};
 ghost use Rattle.fab_model.specs.Topology.{lids_of};
-ghost use Rattle.fab_sssp.specs.WeightTables.{start_weights, weight_of, WeightsFit};
+ghost use Rattle.fab_sssp.specs.WeightTables.{start_weights, weight_of, WeightsFit, AreWeights};
 ghost use Rattle.fab_tables.specs.TreeWalks.{IsTree, terminals_through};
 
 use crate::passing::add_terminals;
@@ -56,6 +56,7 @@ impl Weights {
         requires { c.0 < length self.now.weights }
         ensures weight { slice_get self.now.weights c.0 ≡ Some result }
         ensures positive { 0 < result }
+        ensures kept { AreWeights self.now }
     {
         self.by_channel[c.0 as usize]
     }
