@@ -3,6 +3,7 @@ pub mod Sums
 pub mod SumsBelow
 pub mod TreePassing
 pub mod Nearing
+pub mod LeastChannels
 pub mod WeightBounds
 pub mod PassingCounts
 pub mod WeightsSame
@@ -10,7 +11,10 @@ pub mod OneTable
 pub mod LeastWalks
 pub mod RoutesLeast
 pub mod Turns
+pub mod EntriesSet
+pub mod LidPlaces
 pub mod LaidTrees
+pub mod LaidLids
 pub mod ShortWalks
 pub mod WeightsInRange
 pub mod Settled

@@ -4,4 +4,5 @@ pub mod LeastWeight
 pub mod Nearing
 pub mod Carried
 pub mod LeastWeightTables
+pub mod Laying
 pub mod Laws

@@ -2,6 +2,7 @@
 #![tactic(auto)]
 
 mod laws;
+mod laying;
 mod passing;
 mod search;
 mod weights;
@@ -9,5 +10,6 @@ mod weights;
 pub use laws::{
     least_weight_reaches, one_distance, one_least_weight_tables, routes_are_least, sums_fit,
 };
+pub use laying::lay;
 pub use search::distances;
 pub use weights::Weights;
