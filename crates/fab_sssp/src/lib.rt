@@ -5,6 +5,8 @@ mod laws;
 mod laying;
 mod passing;
 mod search;
+#[cfg(test)]
+mod tests;
 mod weights;
 
 pub use laws::{
