@@ -2,8 +2,8 @@ use Rattle.std.proofs.Common.{arith}
 use Rattle.fab_model.specs.Topology.{lids_of}
 use Rattle.fab_model.proofs.LidsInUse.{as_many, number_at}
 use Rattle.fab_sssp.specs.LeastWeightTables.{AreLeastWeightTables}
-use Rattle.fab_sssp.proofs.LaidLids.{one_lid_read, all_lids_laid}
-use Rattle.fab_sssp.proofs.RoutesLeast.{least_weight_reaches}
+use Rattle.fab_sssp.proofs.Tables.LaidLids.{one_lid_read, all_lids_laid}
+use Rattle.fab_sssp.proofs.Tables.RoutesLeast.{least_weight_reaches}
 use Rattle.fab_sssp.proofs.laying.lay.Goals as goal
 
 pub loop-lid-preserved : goal.loop-lid-preserved

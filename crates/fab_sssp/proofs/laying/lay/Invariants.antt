@@ -1,6 +1,6 @@
 -- The LIDs so far are laid.
 use Rattle.std.proofs.Common.{◌≡◌, length}
-use Rattle.fab_sssp.proofs.LaidLids.{IsLaying}
+use Rattle.fab_sssp.proofs.Tables.LaidLids.{IsLaying}
 use Rattle.fab_sssp.proofs.laying.lay.Given as goal
 
 abbrev pub invariant-loop-lid : goal.invariant-loop-lid

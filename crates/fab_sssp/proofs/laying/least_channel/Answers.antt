@@ -4,9 +4,9 @@ use Rattle.fab_model.specs.Connected.{AreConnected}
 use Rattle.fab_tables.specs.Route.{tip}
 use Rattle.fab_sssp.specs.WeightTables.{weight_of}
 use Rattle.fab_sssp.specs.LeastWeight.{IsDistance}
-use Rattle.fab_sssp.proofs.TreePassing.{tip_read}
-use Rattle.fab_sssp.proofs.WeightBounds.{weight_read, read_within}
-use Rattle.fab_sssp.proofs.LeastChannels.{distance_read, none_left, tip_within, distance_within, missed_more, missed_apart, missed_other, first_is_least, one_begins}
+use Rattle.fab_sssp.proofs.Raising.TreePassing.{tip_read}
+use Rattle.fab_sssp.proofs.Raising.WeightBounds.{weight_read, read_within}
+use Rattle.fab_sssp.proofs.Walks.LeastChannels.{distance_read, none_left, tip_within, distance_within, missed_more, missed_apart, missed_other, first_is_least, one_begins}
 use Rattle.fab_sssp.proofs.laying.least_channel.Goals as goal
 use Rattle.fab_sssp.proofs.laying.least_channel.Goals.{in-Some+else-of-beyond, in_default}
 

@@ -1,6 +1,6 @@
 -- The channels so far begin no walk of least weight.
 use Rattle.fab_sssp.specs.WeightTables.{weight_of}
-use Rattle.fab_sssp.proofs.LeastChannels.{AreMissed}
+use Rattle.fab_sssp.proofs.Walks.LeastChannels.{AreMissed}
 use Rattle.fab_sssp.proofs.laying.least_channel.Given as goal
 
 abbrev pub invariant-loop-number : goal.invariant-loop-number

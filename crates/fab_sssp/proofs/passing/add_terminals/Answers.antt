@@ -1,8 +1,8 @@
 use Rattle.std.proofs.Common.{◌≡◌, ◌∙◌, refl, arith}
 use Rattle.fab_sssp.specs.Passing.{yet_to_pass}
 use Rattle.fab_tables.specs.TreeWalks.{terminals_through}
-use Rattle.fab_sssp.proofs.TreePassing.{all_passed}
-use Rattle.fab_sssp.proofs.PassingCounts.{begins_passing, yet_is_through, through_few}
+use Rattle.fab_sssp.proofs.Raising.TreePassing.{all_passed}
+use Rattle.fab_sssp.proofs.Raising.PassingCounts.{begins_passing, yet_is_through, through_few}
 use Rattle.fab_sssp.proofs.passing.add_terminals.Goals as goal
 
 pub loop-s-init : goal.loop-s-init

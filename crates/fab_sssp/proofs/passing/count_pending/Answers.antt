@@ -1,7 +1,7 @@
 use Rattle.std.proofs.Common.{◌<◌, length, arith, sym}
 use Rattle.fab_tables.proofs.Paths.TreeWalks.{next_tip_below}
-use Rattle.fab_sssp.proofs.TreePassing.{tip_read}
-use Rattle.fab_sssp.proofs.PassingCounts.{leading_fits}
+use Rattle.fab_sssp.proofs.Raising.TreePassing.{tip_read}
+use Rattle.fab_sssp.proofs.Raising.PassingCounts.{leading_fits}
 use Rattle.fab_sssp.proofs.passing.count_pending.Goals as goal
 
 pub bounds-pending-tip : goal.bounds-pending-tip

@@ -1,5 +1,5 @@
 use Rattle.std.proofs.Common.{◌∙◌, length-set}
-use Rattle.fab_sssp.proofs.PassingCounts.{terminal_counted}
+use Rattle.fab_sssp.proofs.Raising.PassingCounts.{terminal_counted}
 use Rattle.fab_sssp.proofs.passing.count_terminals.Goals as goal
 
 pub loop-number-preserved : goal.loop-number-preserved

@@ -1,6 +1,6 @@
 use Rattle.std.proofs.Common.{◌≡◌, Some, sym, arith, length-set}
 use Rattle.fab_tables.specs.Trees.{next}
-use Rattle.fab_sssp.proofs.TreePassing.{tip_read, channel_there, passes_nothing, read_low, read_left, read_few, read_passes, read_totals, read_within}
+use Rattle.fab_sssp.proofs.Raising.TreePassing.{tip_read, channel_there, passes_nothing, read_low, read_left, read_few, read_passes, read_totals, read_within}
 use Rattle.fab_sssp.proofs.passing.pass.Goals as goal
 
 pub returns-in_err-channel-clause-passing : goal.returns-in_err-channel-clause-passing

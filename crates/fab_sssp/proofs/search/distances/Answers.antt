@@ -2,8 +2,8 @@ use Rattle.std.proofs.Common.{◌≡◌, ◌∙◌, ◌+◌, ◌*◌, ◌<◌, �
 use Rattle.std.proofs.lemmas.List.{get_or_read}
 use Rattle.fab_sssp.specs.WeightTables.{weight_of}
 use Rattle.fab_sssp.specs.Nearing.{Offer, offer_of, IsNearing, IsAnyChannel, LeadsElsewhere}
-use Rattle.fab_sssp.proofs.Nearing.{is_settled, is_open, nearest_first, search_begins, taken_low, passed_over, settles, one_less_open, search_ends}
-use Rattle.fab_sssp.proofs.Settled.{settled_distances}
+use Rattle.fab_sssp.proofs.Walks.Nearing.{is_settled, is_open, nearest_first, search_begins, taken_low, passed_over, settles, one_less_open, search_ends}
+use Rattle.fab_sssp.proofs.Walks.Settled.{settled_distances}
 use Rattle.fab_sssp.proofs.search.distances.Goals as goal
 
 pub loop-distance-init : goal.loop-distance-init

@@ -3,8 +3,8 @@ use Rattle.std.proofs.lemmas.List.Sums.{count_by-le-length}
 use Rattle.fab_model.specs.Topology.{first_channel}
 use Rattle.fab_sssp.specs.WeightTables.{weight_of}
 use Rattle.fab_sssp.specs.Nearing.{IsNearing, LeadsElsewhereOrBefore}
-use Rattle.fab_sssp.proofs.Nearing.{is_settled, offering_begins, offering_ends, behind_low, skips, offers_more}
-use Rattle.fab_sssp.proofs.WeightBounds.{weight_read, read_within}
+use Rattle.fab_sssp.proofs.Walks.Nearing.{is_settled, offering_begins, offering_ends, behind_low, skips, offers_more}
+use Rattle.fab_sssp.proofs.Raising.WeightBounds.{weight_read, read_within}
 use Rattle.fab_sssp.proofs.search.offer.Goals as goal
 use Rattle.fab_sssp.proofs.search.offer.Goals.{then-is_none+in_ok-push, else-is_none}
 

@@ -1,7 +1,7 @@
 use Rattle.std.proofs.Common.{◌≡◌, ◌<◌, ◌≤◌, length, replicate, subst, sym, arith}
 use Rattle.std.specs.Prelude.{All}
 use Rattle.fab_sssp.specs.WeightTables.{start_weight, greatest_weight, AreWeights}
-use Rattle.fab_sssp.proofs.WeightBounds.{start_kept}
+use Rattle.fab_sssp.proofs.Raising.WeightBounds.{start_kept}
 use Rattle.fab_sssp.proofs.weights.Weights.new.Goals as goal
 
 pub invariant_of-result : goal.invariant_of-result

@@ -4,7 +4,7 @@ use Rattle.std.proofs.lemmas.List.{with_items_is}
 use Rattle.fab_model.specs.Topology.{lids_of}
 use Rattle.fab_tables.specs.TreeWalks.{terminals_through}
 use Rattle.fab_sssp.specs.WeightTables.{WeightTable}
-use Rattle.fab_sssp.proofs.WeightBounds.{raised_kept}
+use Rattle.fab_sssp.proofs.Raising.WeightBounds.{raised_kept}
 use Rattle.fab_sssp.proofs.weights.Weights.raise.Goals as goal
 
 pub invariant_of-self : goal.invariant_of-self

@@ -12,7 +12,7 @@ use Rattle.fab_sssp.specs.LeastWeight.{BeginsLeastWalk, IsLeastPort}
 use Rattle.fab_sssp.specs.LeastWeightTables.{weight_at, AreLeastWeightTables}
 use Rattle.fab_sssp.specs.Laws.{OneDistance, OneLeastWeightTables}
 use Rattle.fab_tables.proofs.Rows.SameTables.{entries_same}
-use Rattle.fab_sssp.proofs.WeightsSame.{SameEntries, weight_at-same}
+use Rattle.fab_sssp.proofs.Tables.WeightsSame.{SameEntries, weight_at-same}
 
 pub one_distance : OneDistance
 one_distance t weight from to m n x y = omega (arith, x.2, y.2, x.1.least y.0 y.1.leads, y.1.least x.0 x.1.leads)

@@ -14,8 +14,8 @@ use Rattle.fab_model.specs.WellFormed.{IsWellFormed}
 use Rattle.fab_tables.specs.Route.{tip}
 use Rattle.fab_tables.proofs.Verdicts.CertifiedLaws.{contains_of}
 use Rattle.fab_sssp.specs.LeastWeight.{weight_along, IsLeastWalk, IsDistance}
-use Rattle.fab_sssp.proofs.OneTable.{one_distance}
-use Rattle.fab_sssp.proofs.LeastWalks.{least_rest}
+use Rattle.fab_sssp.proofs.Tables.OneTable.{one_distance}
+use Rattle.fab_sssp.proofs.Walks.LeastWalks.{least_rest}
 
 module _ (t : Topology) (weight : ℕ → ℕ) (to : ℕ) (good : IsWellFormed t) (positive : (c : ℕ) → c < length t.channels → 0 < weight c) where
   -- the switches that were passed lie farther off

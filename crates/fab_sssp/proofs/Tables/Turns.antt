@@ -13,8 +13,8 @@ use Rattle.fab_sssp.specs.Carried.{terminals_carried, weight_after, smaller_lids
 use Rattle.fab_sssp.specs.LeastWeightTables.{weight_at}
 use Rattle.fab_tables.specs.TreeWalks.{terminals_through}
 use Rattle.fab_tables.proofs.Paths.TreeRoutes.{IsTreeOf}
-use Rattle.fab_sssp.proofs.LaidTrees.{through_carried}
-use Rattle.fab_sssp.proofs.WeightsSame.{SameEntries, weight_after-same}
+use Rattle.fab_sssp.proofs.Tables.LaidTrees.{through_carried}
+use Rattle.fab_sssp.proofs.Tables.WeightsSame.{SameEntries, weight_after-same}
 
 pub filter-all : {X : Type 0} (p : X → Bool) (xs : List X) → All (λ x. p x ≡ true) xs → filter p xs ≡ xs
 filter-all p [] h = refl

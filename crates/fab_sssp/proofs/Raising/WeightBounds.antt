@@ -12,7 +12,7 @@ use Rattle.fab_model.proofs.Order.{lids_are_counted}
 use Rattle.fab_tables.specs.TreeWalks.{terminals_through}
 use Rattle.fab_sssp.specs.WeightTables.{WeightTable, weight_of, start_weight, start_weights, greatest_weight, AreWeights}
 use Rattle.fab_sssp.specs.Nearing.{weight_limit}
-use Rattle.fab_sssp.proofs.PassingCounts.{through_few}
+use Rattle.fab_sssp.proofs.Raising.PassingCounts.{through_few}
 
 product_small : (s t l : ℕ) → s ≤ switch_limit → t ≤ lid_limit → l ≤ lid_limit → s * t * l ≤ switch_limit * lid_limit * lid_limit
 product_small s t l a b c = omega (arith, mul-le-mul_right l (mul-le-mul_right t a), mul-le-mul_right l (mul-le-mul_left switch_limit b), mul-le-mul_left (switch_limit * lid_limit) c)

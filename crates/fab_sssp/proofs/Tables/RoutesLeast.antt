@@ -22,8 +22,8 @@ use Rattle.fab_sssp.specs.LeastWeight.{weight_along, IsLeastWalk, IsDistance, Be
 use Rattle.fab_sssp.specs.Carried.{terminals_carried, smaller_lids}
 use Rattle.fab_sssp.specs.LeastWeightTables.{weight_at, AreLeastWeightTables}
 use Rattle.fab_sssp.specs.Laws.{LeastWeightReaches, RoutesAreLeast}
-use Rattle.fab_sssp.proofs.LeastWalks.{least_rest, least_first, sum_by-ge, fewer}
-use Rattle.fab_sssp.proofs.OneTable.{one_distance}
+use Rattle.fab_sssp.proofs.Walks.LeastWalks.{least_rest, least_first, sum_by-ge, fewer}
+use Rattle.fab_sssp.proofs.Tables.OneTable.{one_distance}
 
 loops : Loop ≡ Delivered → ⊥
 loops e = cc

@@ -13,7 +13,7 @@ use Rattle.fab_tables.specs.Trees.{next, LeavesSwitch}
 use Rattle.fab_tables.specs.TreeWalks.{GoesAlong, IsTree, walk_of}
 use Rattle.fab_tables.proofs.Paths.TreeWalks.{goes_walk_of, walk_goes, walk_of_next, next_tip_below, walk_short}
 use Rattle.fab_sssp.specs.Passing.{one_if, walks_along, yet_to_pass, leads_to, is_pending, pending_to, IsPassing, KeepsTotals, TotalsFit}
-use Rattle.fab_sssp.proofs.SumsBelow.{sum_below_same, sum_below_one, one_of_sum, nothing_below, moved, moved_from, moved_elsewhere, moved_sum, moved_all}
+use Rattle.fab_sssp.proofs.Raising.SumsBelow.{sum_below_same, sum_below_one, one_of_sum, nothing_below, moved, moved_from, moved_elsewhere, moved_sum, moved_all}
 
 pub tip_read : (t : Topology) (d : ℕ) (x : SwitchId) → option_map (λ (row : ChannelRow). row.tip) (slice_get t.channels d) ≡ Some x → tip t d ≡ x.0
 tip_read t d x = go (slice_get t.channels d)

@@ -19,11 +19,11 @@ use Rattle.fab_sssp.specs.WeightTables.{WeightTable, AreWeights, WeightsFit, wei
 use Rattle.fab_sssp.specs.LeastWeight.{weight_along, IsLeastWalk, IsDistance, AreDistances}
 use Rattle.fab_sssp.specs.Nearing.{weight_limit}
 use Rattle.fab_sssp.specs.Laying.{IsLeastChannel}
-use Rattle.fab_sssp.proofs.LeastWalks.{least_rest}
-use Rattle.fab_sssp.proofs.OneTable.{one_distance}
-use Rattle.fab_sssp.proofs.Settled.{begins_by_distances, distances_by_begins}
-use Rattle.fab_sssp.proofs.ShortWalks.{distance_small}
-use Rattle.fab_sssp.proofs.WeightBounds.{weight_within}
+use Rattle.fab_sssp.proofs.Walks.LeastWalks.{least_rest}
+use Rattle.fab_sssp.proofs.Tables.OneTable.{one_distance}
+use Rattle.fab_sssp.proofs.Walks.Settled.{begins_by_distances, distances_by_begins}
+use Rattle.fab_sssp.proofs.Walks.ShortWalks.{distance_small}
+use Rattle.fab_sssp.proofs.Raising.WeightBounds.{weight_within}
 
 pub joined_along : (t : Topology) (cs : List ℕ) (s to : ℕ) → LeadsAlong t s cs to → AreConnected t s to
 joined_along t [] s to leads = (0, leads)

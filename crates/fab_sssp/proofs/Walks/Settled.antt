@@ -12,8 +12,8 @@ use Rattle.fab_tables.specs.Trees.{LeavesSwitch}
 use Rattle.fab_tables.proofs.Paths.FallingRoutes.{channel_found}
 use Rattle.fab_sssp.specs.LeastWeight.{weight_along, IsDistance, AreDistances, BeginsLeastWalk}
 use Rattle.fab_sssp.specs.Nearing.{IsFound, IsAttained}
-use Rattle.fab_sssp.proofs.OneTable.{one_distance}
-use Rattle.fab_sssp.proofs.LeastWalks.{least_rest}
+use Rattle.fab_sssp.proofs.Tables.OneTable.{one_distance}
+use Rattle.fab_sssp.proofs.Walks.LeastWalks.{least_rest}
 
 -- 0 was found for the destination; each other number comes along a channel; and no channel gives a smaller one
 pub record AreSettled (t : Topology) (weight : ℕ → ℕ) (to : ℕ) (found : List (Option ℕ)) : Type 0 where

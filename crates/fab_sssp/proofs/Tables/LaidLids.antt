@@ -22,12 +22,12 @@ use Rattle.fab_sssp.specs.Carried.{weight_after}
 use Rattle.fab_sssp.specs.LeastWeight.{IsLeastPort}
 use Rattle.fab_sssp.specs.LeastWeightTables.{weight_at, AreLeastWeightTables}
 use Rattle.fab_sssp.specs.Laying.{IsLeastChannel, HasItsChannel, IsLaid, KeepsOtherLids}
-use Rattle.fab_sssp.proofs.EntriesSet.{no_entries_fit}
-use Rattle.fab_sssp.proofs.LaidTrees.{laid_is_tree_of, entry_of_channel, own_entry, other_entry}
-use Rattle.fab_sssp.proofs.LeastChannels.{joined_by_distance}
-use Rattle.fab_sssp.proofs.Turns.{running_weight, raised_weight}
-use Rattle.fab_sssp.proofs.WeightsInRange.{SameWeights, least_port-same}
-use Rattle.fab_sssp.proofs.WeightsSame.{SameEntries, weight_at-same}
+use Rattle.fab_sssp.proofs.Tables.EntriesSet.{no_entries_fit}
+use Rattle.fab_sssp.proofs.Tables.LaidTrees.{laid_is_tree_of, entry_of_channel, own_entry, other_entry}
+use Rattle.fab_sssp.proofs.Walks.LeastChannels.{joined_by_distance}
+use Rattle.fab_sssp.proofs.Tables.Turns.{running_weight, raised_weight}
+use Rattle.fab_sssp.proofs.Walks.WeightsInRange.{SameWeights, least_port-same}
+use Rattle.fab_sssp.proofs.Tables.WeightsSame.{SameEntries, weight_at-same}
 
 -- the entries for a LID are those of least weight at its turn
 pub record IsLidLaid (t : Topology) (e : Entries) (lid : ℕ) : Type 0 where

@@ -13,7 +13,7 @@ use Rattle.fab_tables.specs.Route.{tip}
 use Rattle.fab_tables.specs.Trees.{next}
 use Rattle.fab_tables.specs.TreeWalks.{walk_of, terminals_through}
 use Rattle.fab_sssp.specs.Passing.{sum_below, one_if, terminals_on, walks_along, yet_to_pass, leads_to, leading_to, is_pending, pending_to, IsPassing}
-use Rattle.fab_sssp.proofs.SumsBelow.{sum_below_more, sum_below_same, sum_below_one, nothing_below}
+use Rattle.fab_sssp.proofs.Raising.SumsBelow.{sum_below_more, sum_below_same, sum_below_one, nothing_below}
 
 -- so many of these terminals are on the switch
 abbrev pub on_switch : List TerminalRow → ℕ → ℕ

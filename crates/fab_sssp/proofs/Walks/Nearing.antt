@@ -22,7 +22,7 @@ use Rattle.fab_tables.proofs.Joined.Leaving.{leaves_from, stands_between}
 use Rattle.fab_tables.proofs.Joined.Walks.{reverse_there}
 use Rattle.fab_tables.proofs.Joined.Tips.{tip_below}
 use Rattle.fab_sssp.specs.Nearing.{Offer, offer_of, offered_distance, offered_switch, nearest_last, weight_limit, IsFound, IsAttained, IsReached, IsNearing, IsAnyChannel, LeadsElsewhere, LeadsElsewhereOrBefore}
-use Rattle.fab_sssp.proofs.Settled.{AreSettled}
+use Rattle.fab_sssp.proofs.Walks.Settled.{AreSettled}
 
 -- the top of the heap is nearest
 not_less : (b a : ℕ) (o : Ordering) → is_lt (ordering_then (nat_cmp b a) o) ≡ false → a ≤ b
