@@ -1,0 +1,4 @@
+pub mod Examples
+pub mod Raising
+pub mod Walks
+pub mod Tables

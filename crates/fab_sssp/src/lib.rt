@@ -1,0 +1,17 @@
+//! Weights of channels, distances, and single-source shortest path tables.
+#![tactic(auto)]
+
+mod laws;
+mod laying;
+mod passing;
+mod search;
+#[cfg(test)]
+mod tests;
+mod weights;
+
+pub use laws::{
+    least_weight_reaches, one_distance, one_least_weight_tables, routes_are_least, sums_fit,
+};
+pub use laying::lay;
+pub use search::distances;
+pub use weights::Weights;

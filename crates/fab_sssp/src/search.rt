@@ -1,0 +1,82 @@
+//! Distances to one switch by weighted channels: Dijkstra's search, against the channels.
+//!
+//! A heap holds the switches that were offered a distance, the nearest first; an offer to a settled switch is passed
+//! over. For S switches and C channels: O((S + C) log C) time, and at most 24 bytes for each channel and switch.
+ghost use Rattle.std.specs.Prelude.{◌≡◌, ℕ, ◌+◌, ◌*◌, ◌<◌, ◌≤◌, length, IfOk, OnOk, count_by, is_some};
+ghost use Rattle.std.specs.BinaryHeap.{heap_items, heap_len, IsHeap};
+ghost use Rattle.fab_model.specs.WellFormed.{IsFabric};
+ghost use Rattle.fab_sssp.specs.WeightTables.{weight_of, WeightsFit};
+ghost use Rattle.fab_sssp.specs.LeastWeight.{AreDistances};
+ghost use Rattle.fab_sssp.specs.Nearing.{nearest_last, weight_limit, IsFound, IsNearing, IsAnyChannel, LeadsElsewhere};
+
+use crate::weights::Weights;
+use fab_model::{ChannelId, Fabric, SwitchId};
+use std::alloc::{AllocError, Global};
+use std::cmp::Reverse;
+use std::collections::BinaryHeap;
+
+/// A distance, and the number of the switch that it is offered to.
+type Offer = Reverse<(u64, u32)>;
+
+/// From each switch the least weight of a walk to one; None exactly where not connected.
+pub fn distances(
+    alloc: Global,
+    fabric: &Fabric,
+    weights: &Weights,
+    to: SwitchId,
+) -> Result<Vec<Option<u64>>, AllocError>
+    requires made_for { WeightsFit fabric.now weights.now }
+    requires to { to.0 < length fabric.now.switches }
+    ensures { IfOk result (λ found. AreDistances fabric.now (λ c. weight_of weights.now c) to.0 found.items) }
+{
+    let mut found = vec![in alloc; None; fabric.switches() as usize]?;
+    let mut offers = BinaryHeap::new(alloc);
+    offers.push(Reverse((0, to.0)))?;
+    while let Some(Reverse((distance, switch))) = offers.pop() {
+        if found[switch as usize].is_none() {
+            found[switch as usize] = Some(distance);
+            offer(
+                fabric,
+                weights,
+                SwitchId(switch),
+                distance,
+                &found,
+                &mut offers,
+            )?;
+        }
+    }
+    Ok(found)
+}
+
+/// Offers distances by way of a switch that was just settled to those whose channels lead to it.
+fn offer(
+    fabric: &Fabric,
+    weights: &Weights,
+    settled: SwitchId,
+    distance: u64,
+    found: &[Option<u64>],
+    offers: &mut BinaryHeap<Offer>,
+) -> Result<(), AllocError>
+    requires fabric { IsFabric fabric.now }
+    requires made_for { WeightsFit fabric.now weights.now }
+    requires found { length found.now ≡ length fabric.now.switches }
+    requires settled { IsFound found.now settled.0 distance }
+    requires farthest { (s n : ℕ) → IsFound found.now s n → n ≤ distance }
+    requires small { distance + weight_limit ≤ count_by is_some found.now * weight_limit }
+    requires heap { IsHeap nearest_last (heap_items offers.old) }
+    ensures heap { OnOk result (IsHeap nearest_last (heap_items offers.new)) }
+    ensures few { OnOk result (heap_len offers.new ≤ heap_len offers.old + length fabric.now.channels) }
+    ensures offered { OnOk result ((to : ℕ) →
+        IsNearing fabric.now (λ c. weight_of weights.now c) to found.now (heap_items offers.old) (LeadsElsewhere fabric.now settled.0) →
+        IsNearing fabric.now (λ c. weight_of weights.now c) to found.now (heap_items offers.new) IsAnyChannel) }
+{
+    let (first, past) = fabric.leaves(settled);
+    for leaving in first..past {
+        let from = fabric.tip(ChannelId(leaving));
+        if found[from.0 as usize].is_none() {
+            let channel = fabric.reverse(ChannelId(leaving));
+            offers.push(Reverse((weights.of(channel) + distance, from.0)))?;
+        }
+    }
+    Ok(())
+}
