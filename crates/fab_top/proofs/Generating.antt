@@ -16,7 +16,7 @@ use Rattle.fab_top.specs.Answer.{Answer, done}
 use Rattle.fab_top.specs.Answers.{IsFabricText}
 use Rattle.fab_top.specs.Headline.{WritesTruly, GeneratesTruly}
 use Rattle.fab_top.specs.Outcomes.{IsRightOutcome, FindsRightly, answer_of, CanBePut}
-use Rattle.fab_top.proofs.Concluding.{found_at_most_1}
+use Rattle.fab_top.proofs.Steps.Concluding.{found_at_most_1}
 use Rattle.fab_top.proofs.ReadFits.{fabric_text_in}
 use Rattle.fab_top.proofs.SpelledCommands.{IsFitting}
 

@@ -10,7 +10,7 @@ use Rattle.fab_top.specs.declared.outcome.Stop.{Stop}
 use Rattle.fab_top.specs.Answers.{IsAnswerTo, IsFabricText, IsDemoAnswer}
 use Rattle.fab_top.specs.Headline.{KeepsHeadlineOf, GeneratesTruly, ShowsOff}
 use Rattle.fab_top.specs.Outcomes.{Obeys, FindsRightly}
-use Rattle.fab_top.proofs.Concluding.{found}
+use Rattle.fab_top.proofs.Steps.Concluding.{found}
 
 pub gen_obeyed : (command : Command) (recipe : Recipe) (words : List (List ℕ)) (told : List ℕ → Option (List ℕ)) (now : List ℕ → ℕ) (result : Result Outcome Stop) → command ≡ Gen recipe →
     FindsRightly (IsFabricText (generated recipe)) (GeneratesTruly recipe) result → Obeys command words told now now result

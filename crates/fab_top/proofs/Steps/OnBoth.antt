@@ -10,7 +10,7 @@ use Rattle.fab_top.specs.Files.{fabric_in, plan_in}
 use Rattle.fab_top.specs.Outcomes.{FindsRightly, Concludes}
 use Rattle.fab_top.specs.Seen.{WithPlan, WithBoth}
 use Rattle.fab_top.specs.Taking.{FileSays, StopsAt}
-use Rattle.fab_top.proofs.Concluding.{goes_on, stops, found}
+use Rattle.fab_top.proofs.Steps.Concluding.{goes_on, stops, found}
 
 -- nothing was taken from the fabric's file
 pub fabric_stops : (fabric plan : ℕ) (A H : Topology → Plan → Answer → Type 0) (words : List (List ℕ)) (told : List ℕ → Option (List ℕ)) (before now : List ℕ → ℕ) (stop : Stop) (result : Result Outcome Stop) →

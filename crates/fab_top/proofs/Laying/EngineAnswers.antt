@@ -26,10 +26,10 @@ use Rattle.fab_top.specs.Headline.{Done, IsGood, RoutesTruly, ShowsOff, ok_text}
 use Rattle.fab_top.specs.Outcomes.{IsRightOutcome, FindsRightly, LaysRightly, CanBePut, answer_of}
 use Rattle.fab_top.specs.ReportTexts.{summary_text}
 use Rattle.fab_top.specs.Texts.{verdict_text}
-use Rattle.fab_top.proofs.AfterFiles.{HasRightAnswer}
+use Rattle.fab_top.proofs.Steps.AfterFiles.{HasRightAnswer}
 use Rattle.fab_top.proofs.Certifying.{plan_keeps, plan_is_small}
-use Rattle.fab_top.proofs.Concluding.{found_at_most_1}
-use Rattle.fab_top.proofs.EnginePlans.{laid_in_order, one_laid, one_refusal, lays_or_refuses, refusal_is, engine_answers}
+use Rattle.fab_top.proofs.Steps.Concluding.{found_at_most_1}
+use Rattle.fab_top.proofs.Laying.EnginePlans.{laid_in_order, one_laid, one_refusal, lays_or_refuses, refusal_is, engine_answers}
 use Rattle.fab_top.proofs.Generating.{done_is_small}
 use Rattle.fab_top.proofs.Judging.{true_verdict}
 
