@@ -1,6 +1,7 @@
 pub mod Examples
 pub mod Reaching
 pub mod OneTables
+pub mod TablesExist
 pub mod ShortestRoutes
 pub mod DorRoutes
 pub mod NearerPorts

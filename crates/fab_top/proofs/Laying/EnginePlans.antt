@@ -18,7 +18,7 @@ use Rattle.fab_top.specs.Answer.{Answer}
 use Rattle.fab_top.specs.Engines.{Lays, RefusesWith}
 use Rattle.fab_top.specs.Headline.{Done, IsGood}
 use Rattle.fab_top.specs.Outcomes.{IsFound}
-use Rattle.fab_top.proofs.Laying.TablesExist.{min_hop_table_exists, dor_table_exists}
+use Rattle.fab_balance.proofs.TablesExist.{min_hop_table_exists, dor_table_exists}
 
 -- ---- plans without lanes
 

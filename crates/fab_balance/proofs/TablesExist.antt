@@ -5,10 +5,9 @@ use Rattle.std.specs.List.{range_with_len}
 use Rattle.std.specs.Option.{option_or}
 use Rattle.std.proofs.Math.Path.{fun_ext}
 use Rattle.std.proofs.lemmas.Bool.{cases_lt, ltb-true}
-use Rattle.std.proofs.lemmas.List.{get_or_past}
 use Rattle.std.proofs.lemmas.List.Elements.{All-map}
 use Rattle.std.proofs.lemmas.List.FromFn.{get_or-map-range_with_len, length-map-range_with_len}
-use Rattle.std.proofs.lemmas.Nat.{div-mul-add, mod-mul-add, mul-add-lt, mul-le}
+use Rattle.std.proofs.lemmas.Nat.{div-mul-add, mod-mul-add, mul-add-lt}
 use Rattle.std.proofs.lemmas.Option.{none-some, same_Some, slice_get-get_or, slice_get_within, get_or_from_slice_get}
 use Rattle.fab_graph.specs.Least.{IsLeast, IsNotAfter}
 use Rattle.fab_graph.proofs.Choices.{LeastChoice, least_choice}
@@ -29,29 +28,27 @@ use Rattle.fab_tables.proofs.Joined.Ascending.{lids_ascend, lids_fit}
 use Rattle.fab_tables.proofs.Joined.ConnectedDecided.{connected_decided, connected_to_decided}
 use Rattle.fab_tables.proofs.Joined.Lids.{connected_in_use}
 use Rattle.fab_tables.proofs.Paths.FallingRoutes.{connected_below, channel_port_small}
-use Rattle.fab_tables.proofs.Rows.Cells.{index_found, index_there}
+use Rattle.fab_tables.proofs.Rows.Cells.{index_found, index_there, port_there, port_past}
 use Rattle.fab_hops.specs.HopCounts.{IsHopCount}
 use Rattle.fab_hops.proofs.HopLaws.{one_hop_count}
 use Rattle.fab_hops.proofs.HopWalks.{connected_have_count}
 use Rattle.fab_balance.specs.Eligible.{LeadsNearer}
 use Rattle.fab_balance.specs.MinHop.{AreMinHopTables, AreDorTables}
+use Rattle.fab_balance.specs.Laws.{MinHopTableExists, DorTableExists}
 
 -- ---- tables of given ports, by switch and LID
 
 abbrev at_cell : Topology → (ℕ → ℕ → ℕ) → ℕ → ℕ
-at_cell t port k = port (k / length (lids_of t)) (slice_index_or (lids_of t) (k % length (lids_of t)) 0)
+at_cell t port k = port (k % length t.switches) (slice_index_or (lids_of t) (k / length t.switches) 0)
 
 abbrev cells : Topology → ℕ
-cells t = length t.switches * length (lids_of t)
+cells t = length (lids_of t) * length t.switches
 
 abbrev made : Topology → (ℕ → ℕ → ℕ) → Entries
 made t port = record { switches = length t.switches; in_use = lids_of t; ports = map (at_cell t port) (range_with_len 0 (cells t)) }
 
 cell_within : (rows width row column : ℕ) → row < rows → column < width → cell width row column < rows * width
 cell_within rows width row column h low = omega (arith, mul-add-lt row width column rows h low)
-
-cell_past : (rows width row column size : ℕ) → size ≡ rows * width → rows ≤ row → size ≤ cell width row column
-cell_past rows width row column size e past = omega (arith, e, mul-le rows width row width past (omega arith))
 
 module _ (t : Topology) (fabric : IsFabric t) (port : ℕ → ℕ → ℕ) (low : (s lid : ℕ) → port s lid < 256) (nowhere : (s lid : ℕ) → ¬ IsConnectedTo t s lid → port s lid ≡ 255) where
   made_fits : EntriesFit t (made t port)
@@ -66,19 +63,14 @@ module _ (t : Topology) (fabric : IsFabric t) (port : ℕ → ℕ → ℕ) (low 
     in_use = refl;
   }
 
-  within : (s lid i : ℕ) → index_of lid (lids_of t) ≡ Some i → s < length t.switches → slice_index_or (made t port).ports (cell (length (lids_of t)) s i) 255 ≡ port s lid
+  within : (s lid i : ℕ) → index_of lid (lids_of t) ≡ Some i → s < length t.switches → slice_index_or (made t port).ports (cell (length t.switches) i s) 255 ≡ port s lid
   within s lid i e h =
       let found : (i < length (lids_of t)) × (slice_get (lids_of t) i ≡ Some lid) = index_found lid (lids_of t) i e in
-      let place : ℕ = cell (length (lids_of t)) s i in
-      get_or-map-range_with_len (at_cell t port) 0 (cells t) place place 255 (cell_within (length t.switches) (length (lids_of t)) s i h found.0) (omega arith)
-      ∙ ap (λ row. port row (slice_index_or (lids_of t) (place % length (lids_of t)) 0)) (div-mul-add s (length (lids_of t)) i found.0)
-      ∙ ap (λ column. port s (slice_index_or (lids_of t) column 0)) (mod-mul-add s (length (lids_of t)) i found.0)
+      let place : ℕ = cell (length t.switches) i s in
+      get_or-map-range_with_len (at_cell t port) 0 (cells t) place place 255 (cell_within (length (lids_of t)) (length t.switches) i s found.0 h) (omega arith)
+      ∙ ap (λ row. port row (slice_index_or (lids_of t) (place / length t.switches) 0)) (mod-mul-add i (length t.switches) s h)
+      ∙ ap (λ column. port s (slice_index_or (lids_of t) column 0)) (div-mul-add i (length t.switches) s h)
       ∙ ap (λ n. port s n) (get_or_from_slice_get (lids_of t) i lid 0 found.1)
-
-  elsewhere : (s i : ℕ) → length t.switches ≤ s → slice_index_or (made t port).ports (cell (length (lids_of t)) s i) 255 ≡ 255
-  elsewhere s i past =
-      get_or_past (made t port).ports (cell (length (lids_of t)) s i) 255
-      (cell_past (length t.switches) (length (lids_of t)) s i (length (made t port).ports) (length-map-range_with_len (at_cell t port) 0 (cells t)) past)
 
   entry_is : (s lid : ℕ) → entry (made t port) s lid ≡ port s lid
   entry_is s lid = by_column (index_of lid (lids_of t)) refl
@@ -87,8 +79,8 @@ module _ (t : Topology) (fabric : IsFabric t) (port : ℕ → ℕ → ℕ) (low 
       by_column None e =
           sym (nowhere s lid (λ c. let has : Contains (lids_of t) lid = connected_in_use t s lid c in index_there lid (lids_of t) has.0 has.1 has.2 e))
       by_column (Some i) e = elim (cases_lt s (length t.switches)) [
-        | inl h ↦ within s lid i e h
-        | inr past ↦ elsewhere s i past ∙ sym (nowhere s lid (λ c. omega (arith, past, connected_below t fabric.rows s lid c)))
+        | inl h ↦ port_there (made t port) s i h ∙ within s lid i e h
+        | inr past ↦ port_past (made t port) s (Some i) past ∙ sym (nowhere s lid (λ c. omega (arith, past, connected_below t fabric.rows s lid c)))
       ]
 
 -- ---- the least eligible port
@@ -296,7 +288,7 @@ module _ (t : Topology) (fabric : IsFabric t) (load : Load) where
 no_load : Load
 no_load g s lid at = 0
 
-pub dor_table_exists : (t : Topology) → IsFabric t → (e : Entries) × AreDorTables t e
+pub dor_table_exists : DorTableExists
 unfolding no_load
 dor_table_exists t fabric = (tables t fabric no_load, record { fixed = fixed t fabric no_load; chosen = λ s lid to is. least s lid to (chosen t fabric no_load (λ g h s lid same. refl) s lid to is) })
   where
@@ -322,7 +314,7 @@ unfolding terminal_load
 loads_same t g h s lid same =
     fun_ext (λ port. ap (λ (test : TerminalRow → Bool). count_by test t.terminals) (fun_ext (λ p. same_test lid p.lid.0 (g s p.lid.0) (h s p.lid.0) port (λ low. same p.lid.0 low))))
 
-pub min_hop_table_exists : (t : Topology) → IsFabric t → (e : Entries) × AreMinHopTables t e
+pub min_hop_table_exists : MinHopTableExists
 unfolding terminal_load
 min_hop_table_exists t fabric = (
   tables t fabric (terminal_load t),
