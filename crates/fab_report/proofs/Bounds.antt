@@ -1,11 +1,9 @@
 -- Loads and hops are small numbers.
-use Rattle.std.proofs.Common.{◌≡◌, ℕ, zero, suc, ◌+◌, ◌*◌, ◌≤◌, Bool, true, false, List, ◌++◌, length, map, arith, length-append}
-use Rattle.std.specs.Prelude.{count_by, sum_by, if◌then◌else◌, nat_lt}
+use Rattle.std.proofs.Common.{ℕ, zero, suc, ◌*◌, ◌≤◌, Bool, true, false, length, arith}
+use Rattle.std.specs.Prelude.{count_by, sum_by, if◌then◌else◌}
 use Rattle.std.specs.List.{range_with_len}
-use Rattle.std.proofs.lemmas.List.{length-map}
 use Rattle.std.proofs.lemmas.List.FromFn.{length-range_with_len}
 use Rattle.std.proofs.lemmas.List.Sums.{sum_by-le, count_by-le-length, length-filter}
-use Rattle.fab_model.specs.declared.rows.SwitchRow.{SwitchRow}
 use Rattle.fab_model.specs.declared.rows.TerminalRow.{TerminalRow}
 use Rattle.fab_model.specs.Topology.{Topology, lids_of, is_source}
 use Rattle.fab_model.proofs.Order.{lids_are_counted}

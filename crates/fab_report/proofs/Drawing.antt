@@ -1,9 +1,9 @@
 -- The words of a random fabric, drawn one after the other.
-use Rattle.std.proofs.Common.{◌≡◌, ℕ, zero, suc, ◌+◌, ◌-◌, ◌*◌, ◌<◌, ◌≤◌, Bool, true, false, List, [], ◌∷◌, map, take, drop, Option, Some, None, find, refl, sym, ◌∙◌, ap, arith}
+use Rattle.std.proofs.Common.{◌≡◌, ℕ, suc, ◌+◌, ◌-◌, ◌*◌, ◌<◌, ◌≤◌, Bool, true, false, List, map, take, drop, Some, None, find, refl, sym, ◌∙◌, ap, arith}
 use Rattle.std.specs.Prelude.{fold, ◌%◌}
 use Rattle.std.proofs.lemmas.Nat.{mod_below}
 use Rattle.fab_model.proofs.Lists.Members.{In, from_map}
-use Rattle.fab_model.proofs.Lists.Found.{from_range, from_find}
+use Rattle.fab_model.proofs.Lists.Found.{from_find}
 use Rattle.std.specs.List.{range_with_len, zip}
 use Rattle.rand_core.specs.Steps.{first_words}
 use Rattle.rand_pcg.specs.Lcg.{Lcg}

@@ -1,13 +1,13 @@
 -- The lines of a route: text and what is still to come, and the lanes of hops.
-use Rattle.std.proofs.Common.{◌≡◌, ℕ, zero, suc, ◌+◌, ◌<◌, List, [], ◌∷◌, ◌++◌, length, refl, sym, ◌∙◌, ap, subst, inl, inr, arith, Option, Some, None, find, slice_get, append_assoc, append-nil}
-use Rattle.std.specs.Prelude.{All, flat_map, slice_index_or, option_map, unwrap_or, codes}
+use Rattle.std.proofs.Common.{◌≡◌, ℕ, ◌<◌, List, [], ◌∷◌, ◌++◌, length, refl, sym, ◌∙◌, ap, subst, inl, inr, arith, Option, Some, None, find, slice_get, append_assoc, append-nil}
+use Rattle.std.specs.Prelude.{All, flat_map, option_map, unwrap_or, codes}
 use Rattle.std.proofs.lemmas.Bool.{cases_lt}
 use Rattle.std.proofs.lemmas.List.{get_or_past}
 use Rattle.std.proofs.lemmas.List.Elements.{All-nil, All-cons, All-head, All-tail, All-get_or}
 use Rattle.fab_text.specs.Digits.{last_digits}
 use Rattle.fab_model.specs.declared.rows.ChannelRow.{ChannelRow}
 use Rattle.fab_model.specs.declared.rows.SwitchRow.{SwitchRow}
-use Rattle.fab_model.specs.Topology.{Topology, guid_of}
+use Rattle.fab_model.specs.Topology.{Topology}
 use Rattle.fab_model.proofs.Lists.Members.{in_all}
 use Rattle.fab_model.proofs.Lists.Found.{from_find}
 use Rattle.fab_tables.specs.declared.lanes.PairRow.{PairRow}

@@ -1,16 +1,16 @@
 -- Hops added up over sources and LIDs, and the numbers that are not 0.
-use Rattle.std.proofs.Common.{◌≡◌, ℕ, ◌+◌, ◌*◌, ◌<◌, ◌≤◌, Bool, true, false, cond, List, [], ◌∷◌, ◌++◌, length, take, get_or, max, refl, sym, ◌∙◌, ap, arith}
+use Rattle.std.proofs.Common.{◌≡◌, ℕ, ◌+◌, ◌*◌, ◌≤◌, Bool, true, false, cond, List, [], ◌∷◌, ◌++◌, length, ◌∙◌, ap, arith}
 use Rattle.std.specs.Prelude.{sum_by, filter}
 use Rattle.std.specs.List.{range_with_len}
-use Rattle.std.proofs.lemmas.List.Sums.{sum_by_push, sum_by-le, sum_by_more, length-filter, count_by-le-length}
+use Rattle.std.proofs.lemmas.List.Sums.{sum_by_push, sum_by-le, length-filter, count_by-le-length}
 use Rattle.std.proofs.lemmas.List.{append-nil}
 use Rattle.std.proofs.lemmas.List.FromFn.{length-range_with_len}
-use Rattle.fab_model.specs.Topology.{Topology, lids_of, is_source}
+use Rattle.fab_model.specs.Topology.{Topology, is_source}
 use Rattle.fab_model.specs.WellFormed.{IsFabric}
 use Rattle.fab_model.proofs.Tables.{filter_range_more}
 use Rattle.fab_tables.specs.Entries.{Entries}
 use Rattle.fab_tables.specs.Route.{route}
-use Rattle.fab_report.specs.Summary.{hops_if_delivered, sources}
+use Rattle.fab_report.specs.Summary.{hops_if_delivered}
 use Rattle.fab_report.proofs.Bounds.{route_short, hops_short}
 
 module _ (t : Topology) (e : Entries) (lid : ℕ) where

@@ -18,3 +18,4 @@ pub mod LoadSums
 pub mod HopLines
 pub mod HopSums
 pub mod NumberCounts
+pub mod Carrying

@@ -1,12 +1,12 @@
 -- The terminals of a recipe's fabric, one after the other.
-use Rattle.std.proofs.Common.{◌≡◌, ◌<◌, ◌≤◌, ◌+◌, ℕ, List, [], ◌∷◌, ◌++◌, length, map, refl, sym, ap, ◌∙◌, arith, append_assoc, length-append}
+use Rattle.std.proofs.Common.{◌≡◌, ◌<◌, ◌+◌, ℕ, List, [], ◌∷◌, ◌++◌, length, map, sym, ap, ◌∙◌, arith, append_assoc, length-append}
 use Rattle.std.specs.Prelude.{flat_map, IsTrue}
 use Rattle.std.specs.List.{enumerate_from, range_with_len}
 use Rattle.std.proofs.lemmas.List.{append-nil, length-map}
 use Rattle.std.proofs.lemmas.List.FromFn.{map-range_with_len_more, length-enumerate_from, length-range_with_len}
 use Rattle.fab_model.specs.declared.rows.TerminalRow.{TerminalRow}
 use Rattle.fab_report.specs.declared.recipe.Recipe.{Recipe}
-use Rattle.fab_report.specs.Recipes.{fits, switch_count, terminal_ports, terminal_places, terminal_at}
+use Rattle.fab_report.specs.Recipes.{fits, switch_count, terminal_ports, terminal_at}
 use Rattle.fab_report.proofs.Growing.{flat_range_more, flat_range_le, numbered_push}
 use Rattle.fab_report.proofs.Places.{place_at, ArePlaces, are_places}
 

@@ -7,6 +7,7 @@ mod laws;
 mod lines;
 mod loads;
 mod nodes;
+mod order;
 mod random;
 mod recipe;
 mod rows;

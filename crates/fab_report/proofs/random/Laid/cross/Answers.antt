@@ -1,4 +1,4 @@
-use Rattle.std.proofs.Common.{◌≡◌, Bool, List, ℕ, sym, ap, subst}
+use Rattle.std.proofs.Common.{◌≡◌, Bool, List, sym, ap, subst}
 use Rattle.std.specs.Prelude.{OnOk, ◌%◌}
 use Rattle.std.proofs.lemmas.Bool.{ne_eqb}
 use Rattle.fab_model.specs.declared.rows.ChannelRow.{ChannelRow}

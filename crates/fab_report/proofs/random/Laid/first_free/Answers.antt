@@ -1,4 +1,4 @@
-use Rattle.std.proofs.Common.{◌+◌, ℕ, sym, ◌∙◌}
+use Rattle.std.proofs.Common.{◌+◌, sym, ◌∙◌}
 use Rattle.std.specs.Prelude.{◌%◌}
 use Rattle.fab_report.specs.Cabling.{has_free_port}
 use Rattle.fab_report.proofs.Drawing.{find_next, find_here}

@@ -1,4 +1,4 @@
-use Rattle.std.proofs.Common.{◌≡◌, ◌<◌, List, Option, ℕ, sym, ap, subst, arith}
+use Rattle.std.proofs.Common.{◌≡◌, List, Option, ℕ, sym, ap, subst, arith}
 use Rattle.std.specs.Prelude.{OnOk}
 use Rattle.fab_model.specs.declared.rows.ChannelRow.{ChannelRow}
 use Rattle.fab_report.specs.Cabling.{has_free_port, with_cable_to}
