@@ -7,8 +7,8 @@ use Rattle.fab_netdiscover.specs.Writing.{text_of}
 use Rattle.fab_netdiscover.proofs.WrittenFabric.{written_is_built}
 use Rattle.fab_report.specs.declared.recipe.Recipe.{Recipe}
 use Rattle.fab_report.specs.Recipes.{generated}
-use Rattle.fab_report.proofs.AllCables.{generated_has_no_own_cable}
-use Rattle.fab_report.proofs.GeneratedRows.{generated_is_fabric}
+use Rattle.fab_report.proofs.Cabling.AllCables.{generated_has_no_own_cable}
+use Rattle.fab_report.proofs.Generated.GeneratedRows.{generated_is_fabric}
 use Rattle.fab_top.specs.declared.outcome.Outcome.{Outcome}
 use Rattle.fab_top.specs.declared.outcome.Stop.{Stop}
 use Rattle.fab_top.specs.declared.outcome.Stop.TheVariants.{Refused, Unread, Memory}

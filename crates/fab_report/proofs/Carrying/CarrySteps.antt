@@ -24,7 +24,7 @@ use Rattle.fab_report.specs.Loads.{is_loaded_by}
 use Rattle.fab_report.specs.Counting.{AreCounts, terminals_on, load_from}
 use Rattle.fab_report.specs.Order.{way, tail_of_row, tails, IsLaid, AreInOrder, IsWholeOrder}
 use Rattle.fab_report.proofs.Carrying.RouteWays.{are_ways, adds_as_route}
-use Rattle.fab_report.proofs.LoadSums.{by_terminals}
+use Rattle.fab_report.proofs.Reporting.LoadSums.{by_terminals}
 
 -- ---- the terminals at first
 

@@ -18,7 +18,7 @@ use Rattle.fab_report.specs.declared.order.Mark.TheVariants.{Unseen, Lost, Laid}
 use Rattle.fab_report.specs.Order.{tail, tail_of_row, tails, IsLaid, AreInOrder, mark_of, Means, AreMarks, after, numbers, IsWalked}
 use Rattle.fab_report.proofs.Carrying.WalkedRoutes.{after_push, tail_after, goes_after}
 use Rattle.fab_report.proofs.Carrying.RouteWays.{way_lost, way_goes}
-use Rattle.fab_report.proofs.Carrying.Marks.{tail_last, at_first, behind_first, marked, still_marks}
+use Rattle.fab_report.proofs.Carrying.Marks.{tail_last, at_first, behind_first, marked}
 use Rattle.fab_report.proofs.Carrying.WalkSteps.{numbers_push, at_length}
 
 module _ (t : Topology) (e : Entries) (lid : ℕ) (toward : IsToward t e lid) (from : ℕ) (laid walked left : List ChannelId) (c : ChannelId) (marks : List Mark)
@@ -68,10 +68,6 @@ module _ (t : Topology) (e : Entries) (lid : ℕ) (toward : IsToward t e lid) (f
         laid_still : (x : ℕ) → IsLaid t e lid laid x → IsLaid t e lid (c ∷ laid) x
         laid_still x (inl none) = inl none
         laid_still x (inr there) = inr (behind_first (tails t laid) (tail t c) x there)
-
--- all channels of the walk are laid
-pub walk_laid : (t : Topology) (e : Entries) (lid from : ℕ) (laid walked : List ChannelId) (marks : List Mark) → walked ≡ [] → IsWalked t e lid from laid walked marks → AreMarks t e lid laid [] marks
-walk_laid t e lid from laid walked marks none now = still_marks t e lid laid laid (tails t walked) [] marks (λ x. (subst (λ (ws : List ChannelId). Contains (tails t walked) x → Contains (tails t ws) x) none (λ there. there), λ l. l)) now.marked
 
 -- a switch that is seen when no walk is under way has its way laid
 pub seen_laid : (t : Topology) (e : Entries) (lid : ℕ) (laid : List ChannelId) (marks : List Mark) (s : ℕ) → AreMarks t e lid laid [] marks → mark_of marks s ≢ Unseen → IsLaid t e lid laid s

@@ -71,9 +71,6 @@ module _ (t : Topology) (e : Entries) (lid : ℕ) (channels new_channels : List 
 
 -- ---- switches that are seen
 
-pub sees_same : (marks : List Mark) (from : ℕ) (new : List Mark) → mark_of new from ≢ Unseen → ((x : ℕ) → mark_of marks x ≢ Unseen → mark_of new x ≢ Unseen) → SeesMore marks from new
-sees_same marks from new here others x was = elim was [ inl same ↦ subst (λ (y : ℕ). mark_of new y ≢ Unseen) (sym same) here | inr seen ↦ others x seen ]
-
 -- a mark more keeps what is seen
 pub seen_on : (old marks : List Mark) (from s : ℕ) (m : Mark) → s < length marks → m ≢ Unseen → SeesMore old from marks → SeesMore old from (set marks s m)
 seen_on old marks from s m low some more x was = elim (cases_eq x s) [

@@ -110,9 +110,6 @@ module _ (t : Topology) (e : Entries) (lid : ℕ) (toward : IsToward t e lid) (f
               (λ x other. (λ there. elim (first_or_rest (tails t walked) at x there) [ inl same ↦ absurd (other (sym same)) | inr before ↦ before ], λ laid. laid)) walking.marked;
         }
 
-    pub end_seen : SeesMore initial from (set marks at Laid)
-    end_seen = seen_on initial marks from at Laid (omega (arith, walking.low, walking.room)) unseen_laid walking.seen
-
     module _ (new : Ahead) (c : ChannelId) (steps : StepsTo old (Some c) new) where
       before : (route t e from lid).channels ≡ numbers walked ++ c.0 ∷ new.channels
       before = walking.along ∙ ap (λ (xs : List ℕ). numbers walked ++ xs) steps.0

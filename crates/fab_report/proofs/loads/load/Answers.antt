@@ -2,7 +2,7 @@ use Rattle.std.proofs.Common.{◌<◌, ℕ, List, length, subst, sym, ap, arith,
 use Rattle.std.specs.Prelude.{All}
 use Rattle.fab_model.specs.Topology.{lids_of}
 use Rattle.fab_model.proofs.LidsInUse.{as_many, number_at}
-use Rattle.fab_report.proofs.LoadSums.{lid_added, loads_small, loads_are, same_counts, whole_counts}
+use Rattle.fab_report.proofs.Reporting.LoadSums.{lid_added, loads_small, loads_are, same_counts, whole_counts}
 use Rattle.fab_report.proofs.loads.load.Goals as goal
 
 pub add_routes-requires-clause-small : goal.add_routes-requires-clause-small

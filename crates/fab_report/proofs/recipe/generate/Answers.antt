@@ -5,11 +5,11 @@ use Rattle.fab_model.specs.declared.rows.TerminalRow.{TerminalRow}
 use Rattle.fab_model.specs.Topology.{Topology, HasNoOwnCable}
 use Rattle.fab_model.specs.WellFormed.{IsFabric}
 use Rattle.fab_report.specs.Recipes.{terminal_places, generated}
-use Rattle.fab_report.proofs.AllCables.{generated_has_no_own_cable}
-use Rattle.fab_report.proofs.GeneratedRows.{is_fabric}
-use Rattle.fab_report.proofs.NodeRows.{lists_are}
-use Rattle.fab_report.proofs.Places.{are_places}
-use Rattle.fab_report.proofs.TerminalLists.{length-rows_of}
+use Rattle.fab_report.proofs.Cabling.AllCables.{generated_has_no_own_cable}
+use Rattle.fab_report.proofs.Generated.GeneratedRows.{is_fabric}
+use Rattle.fab_report.proofs.Generated.NodeRows.{lists_are}
+use Rattle.fab_report.proofs.Generated.Places.{are_places}
+use Rattle.fab_report.proofs.Generated.TerminalLists.{length-rows_of}
 use Rattle.fab_report.proofs.recipe.generate.Goals as goal
 
 pub overflow_cast-len : goal.overflow_cast-len

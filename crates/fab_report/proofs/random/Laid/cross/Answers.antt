@@ -3,7 +3,7 @@ use Rattle.std.specs.Prelude.{OnOk, ◌%◌}
 use Rattle.std.proofs.lemmas.Bool.{ne_eqb}
 use Rattle.fab_model.specs.declared.rows.ChannelRow.{ChannelRow}
 use Rattle.fab_report.specs.Cabling.{unless_same}
-use Rattle.fab_report.proofs.LeastFree.{laid_cables}
+use Rattle.fab_report.proofs.Cabling.LeastFree.{laid_cables}
 use Rattle.fab_report.proofs.random.Laid.cross.Goals as goal
 
 pub returns : goal.returns

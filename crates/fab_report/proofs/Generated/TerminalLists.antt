@@ -7,8 +7,8 @@ use Rattle.std.proofs.lemmas.List.FromFn.{map-range_with_len_more, length-enumer
 use Rattle.fab_model.specs.declared.rows.TerminalRow.{TerminalRow}
 use Rattle.fab_report.specs.declared.recipe.Recipe.{Recipe}
 use Rattle.fab_report.specs.Recipes.{fits, switch_count, terminal_ports, terminal_at}
-use Rattle.fab_report.proofs.Growing.{flat_range_more, flat_range_le, numbered_push}
-use Rattle.fab_report.proofs.Places.{place_at, ArePlaces, are_places}
+use Rattle.fab_report.proofs.Cabling.Growing.{flat_range_more, flat_range_le, numbered_push}
+use Rattle.fab_report.proofs.Generated.Places.{place_at, ArePlaces, are_places}
 
 -- the places at a switch, and at those of smaller numbers
 abbrev pub places_on : Recipe → ℕ → List (ℕ × ℕ)

@@ -15,8 +15,8 @@ use Rattle.fab_report.specs.declared.recipe.Kind.TheVariants.{Ring, Torus, Tree}
 use Rattle.fab_report.specs.Cabling.{cable}
 use Rattle.fab_report.specs.Recipes.{fits_kind, port_count, at_grid, torus_cables_of, cables}
 use Rattle.fab_model.proofs.Lists.FlatMaps.{from_flat_map, pairs_flat_map}
-use Rattle.fab_report.proofs.CableLists.{IsCable, HaveOwnEnds, AreCables}
-use Rattle.fab_report.proofs.Ranges.{FitsRing, FitsTorus, FitsTree, ring_fits, torus_fits, tree_fits, next_below, next_differs, next_one}
+use Rattle.fab_report.proofs.Cabling.CableLists.{IsCable, HaveOwnEnds, AreCables}
+use Rattle.fab_report.proofs.Generated.Ranges.{FitsRing, FitsTorus, FitsTree, ring_fits, torus_fits, tree_fits, next_below, next_differs, next_one}
 
 -- cables of other ports
 by_ports : (x y : ChannelRow) → x.port ≢ y.port → x.port ≢ y.tip_port → x.tip_port ≢ y.port → x.tip_port ≢ y.tip_port → HaveOwnEnds x y

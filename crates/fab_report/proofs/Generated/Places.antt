@@ -14,7 +14,7 @@ use Rattle.fab_report.specs.declared.recipe.Kind.{Kind}
 use Rattle.fab_report.specs.declared.recipe.Kind.TheVariants.{Ring, Torus, Tree, Random}
 use Rattle.fab_report.specs.Recipes.{fits_kind, switch_count, port_count, terminal_ports}
 use Rattle.fab_model.proofs.Lists.FlatMaps.{from_flat_map, pairs_flat_map}
-use Rattle.fab_report.proofs.Ranges.{FitsRing, FitsTorus, FitsTree, FitsRandom, ring_fits, torus_fits, tree_fits, random_fits}
+use Rattle.fab_report.proofs.Generated.Ranges.{FitsRing, FitsTorus, FitsTree, FitsRandom, ring_fits, torus_fits, tree_fits, random_fits}
 
 abbrev pub place_at : ℕ → ℕ → ℕ × ℕ
 place_at s port = (s, port)

@@ -11,7 +11,7 @@ use Rattle.fab_model.proofs.Tables.{filter_range_more}
 use Rattle.fab_tables.specs.Entries.{Entries}
 use Rattle.fab_tables.specs.Route.{route}
 use Rattle.fab_report.specs.Summary.{hops_if_delivered}
-use Rattle.fab_report.proofs.Bounds.{route_short, hops_short}
+use Rattle.fab_report.proofs.Reporting.Bounds.{route_short, hops_short}
 
 module _ (t : Topology) (e : Entries) (lid : ℕ) where
   abbrev pub hops_by : ℕ → ℕ

@@ -20,9 +20,9 @@ use Rattle.fab_model.proofs.Lists.Found.{from_enumerate, pairs_enumerate, from_r
 use Rattle.fab_report.specs.declared.recipe.Recipe.{Recipe}
 use Rattle.fab_report.specs.Recipes.{fits, switch_count, port_count, switch_row, all_switches, terminal_ports, terminal_places, terminal_row, adapter_row, cables, channels_of, generated}
 use Rattle.fab_report.specs.Laws.{GeneratedIsFabric}
-use Rattle.fab_report.proofs.CableLists.{IsCable, AreCables, channel_is, channel_back, channels_rise, channels_few}
-use Rattle.fab_report.proofs.AllCables.{are_cables}
-use Rattle.fab_report.proofs.Places.{ArePlaces, are_places, from_place, DifferPlaces, places_differ}
+use Rattle.fab_report.proofs.Cabling.CableLists.{IsCable, AreCables, channel_is, channel_back, channels_rise, channels_few}
+use Rattle.fab_report.proofs.Cabling.AllCables.{are_cables}
+use Rattle.fab_report.proofs.Generated.Places.{ArePlaces, are_places, from_place, DifferPlaces, places_differ}
 
 -- ---- numbered lists
 

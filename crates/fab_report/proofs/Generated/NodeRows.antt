@@ -9,7 +9,7 @@ use Rattle.fab_model.specs.declared.rows.ChannelRow.{ChannelRow}
 use Rattle.fab_model.specs.Topology.{Topology, lid_id}
 use Rattle.fab_report.specs.declared.recipe.Recipe.{Recipe}
 use Rattle.fab_report.specs.Recipes.{port_count, switch_row, all_switches, terminal_places, terminal_row, adapter_row, cables, channels_of, generated}
-use Rattle.fab_report.proofs.RegularRows.{mapped_more}
+use Rattle.fab_report.proofs.Generated.RegularRows.{mapped_more}
 
 nothing : (n : ℕ) → n ≡ 0 + n
 nothing n = omega arith
