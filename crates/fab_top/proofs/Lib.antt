@@ -15,3 +15,4 @@ pub mod Generating
 pub mod Loading
 pub mod Showing
 pub mod Answering
+pub mod TextLengths

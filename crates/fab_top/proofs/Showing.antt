@@ -13,12 +13,12 @@ use Rattle.fab_tables.proofs.Joined.Lids.{connected_in_use}
 use Rattle.fab_report.specs.Shown.{shown_text}
 use Rattle.fab_top.specs.declared.outcome.Outcome.{Outcome}
 use Rattle.fab_top.specs.declared.outcome.Stop.{Stop}
-use Rattle.fab_top.specs.Answer.{Answer, refused}
+use Rattle.fab_top.specs.Answer.{Answer}
 use Rattle.fab_top.specs.Answers.{shown_answer, IsShown, IsShowAnswer}
 use Rattle.fab_top.specs.FaultTexts.{unknown_lid_text}
 use Rattle.fab_top.specs.Files.{known_place}
 use Rattle.fab_top.specs.Headline.{Done, IsDoneIfDelivered, ShowsTruly}
-use Rattle.fab_top.specs.Outcomes.{IsRightOutcome, FindsRightly, answer_of, CanBePut}
+use Rattle.fab_top.specs.Outcomes.{FindsRightly, answer_of, CanBePut}
 use Rattle.fab_top.specs.Seen.{After}
 use Rattle.fab_top.specs.Taking.{IsTaken}
 use Rattle.fab_top.proofs.AfterFiles.{HasRightAnswer, after_weaker, after_one, after_small, after_exists}

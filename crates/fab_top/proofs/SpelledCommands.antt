@@ -9,7 +9,7 @@ use Rattle.fab_report.specs.declared.recipe.Recipe.{Recipe}
 use Rattle.fab_report.specs.Laws.{HasSeed}
 use Rattle.fab_report.specs.Recipes.{fits}
 use Rattle.fab_top.specs.declared.command.Command.{Command}
-use Rattle.fab_top.specs.declared.command.Command.TheVariants.{Check, Certify, Convert, Show, Load, Gen}
+use Rattle.fab_top.specs.declared.command.Command.TheVariants.{Check, Certify, Convert, Load, Gen}
 use Rattle.fab_top.specs.Ran.{files_of}
 use Rattle.fab_top.specs.Words.{texts, is_file, named, number_in, kinds, two_files, recipe_of, recipe_in, lid_in, show_from_to, show_words, gen_words, commands, command_of}
 use Rattle.fab_top.proofs.WordNumbers.{number_is_low}
