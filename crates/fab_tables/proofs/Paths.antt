@@ -13,4 +13,5 @@ pub mod Steps
 pub mod SwitchSums
 pub mod TreeRoutes
 pub mod TreeWalks
+pub mod TreeWays
 pub mod Ways

@@ -2,13 +2,15 @@
 -- With the first channel of its switch's way an amount goes to the next switch. For each channel, what it has carried and what is still to go along it have the same sum after each such step.
 -- The ways of a LID's delivered routes and the walks of a tree are such ways; the amounts are the terminals of the switches at first.
 use Rattle.std.proofs.Common.{◌≡◌, ◌≢◌, ℕ, zero, suc, ◌+◌, ◌<◌, ◌≤◌, ◌⊎◌, inl, inr, Bool, true, false, List, [], ◌∷◌, length, set, refl, sym, ◌∙◌, ap, subst, arith, length-set, get_or-set_other}
-use Rattle.std.specs.Prelude.{◌==◌, ◌||◌, sum, sum_by, slice_index, if◌then◌else◌}
+use Rattle.std.specs.Prelude.{◌==◌, ◌||◌, sum, sum_by, count_by, slice_index, if◌then◌else◌}
 use Rattle.std.specs.List.{range_with_len, list_any}
 use Rattle.std.proofs.lemmas.Bool.{cases_eq, eq-eqb, ne_eqb, false≢true}
 use Rattle.std.proofs.lemmas.List.{get_or-set_same}
-use Rattle.std.proofs.lemmas.List.Sums.{sum_by-set, get_or-le-sum_by}
+use Rattle.std.proofs.lemmas.List.Sums.{sum_by-set, get_or-le-sum_by, sum-map, count_by-le-length}
+use Rattle.std.proofs.lemmas.List.FromFn.{fill_by_all}
+use Rattle.fab_model.specs.declared.rows.TerminalRow.{TerminalRow}
 use Rattle.fab_model.proofs.Lists.Members.{In}
-use Rattle.fab_tables.proofs.Paths.SwitchSums.{sum_zero, sum_changed, term_within}
+use Rattle.fab_tables.proofs.Paths.SwitchSums.{sum_zero, same_sum, sum_changed, term_within, counted_at, by_switch}
 
 -- each switch's way is empty, or a channel and the way of the channel's tip
 abbrev pub AreWays : (ℕ → ℕ) → (ℕ → List ℕ) → Type 0
@@ -187,3 +189,22 @@ all_carried way n channels all total counts amounts now channel low =
       | inr was ↦ elim was [ inl gone ↦ ap (λ (k : ℕ). added_along k (way s) channel) gone ∙ nothing_added (way s) channel | inr there ↦ absurd there ]
     ]) in
     omega (arith, none, now.each channel low)
+
+-- ---- terminals
+
+-- what the terminals add that each switch has
+module _ (way : ℕ → List ℕ) (rows : List TerminalRow) (n : ℕ) (terminals : List ℕ) (room : length terminals ≡ n)
+    (each : (s : ℕ) → s < n → slice_index terminals s ≡ count_by (λ (row : TerminalRow). row.switch.0 == s) rows) (low : (row : TerminalRow) → In row rows → row.switch.0 < n) where
+  pub terminals_added : (channel : ℕ) → all_added way n terminals channel ≡ count_by (λ (row : TerminalRow). list_any (λ c. c == channel) (way row.switch.0)) rows
+  terminals_added channel =
+      same_sum (λ s. added_along (slice_index terminals s) (way s) channel) (counted_at (λ s. list_any (λ c. c == channel) (way s)) rows) n (λ s less. ap (λ (k : ℕ). added_along k (way s) channel) (each s less))
+      ∙ by_switch (λ s. list_any (λ c. c == channel) (way s)) rows n low
+
+  pub terminals_in_all : sum terminals ≤ length rows
+  terminals_in_all = omega (
+    arith,
+    ap (λ (xs : List ℕ). sum xs) (fill_by_all (λ s. count_by (λ (row : TerminalRow). row.switch.0 == s) rows) terminals n 0 room each),
+    sum-map (λ s. count_by (λ (row : TerminalRow). row.switch.0 == s) rows) (range_with_len 0 n),
+    by_switch (λ (s : ℕ). true) rows n low,
+    count_by-le-length (λ (row : TerminalRow). true) rows,
+  )

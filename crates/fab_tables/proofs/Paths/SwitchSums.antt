@@ -15,6 +15,20 @@ pub sum_both : (f g h : ℕ → ℕ) (xs : List ℕ) → ((x : ℕ) → f x ≡ 
 sum_both f g h [] same = refl
 sum_both f g h (x ∷ xs) same = omega (arith, sum_by-cons f x xs, sum_by-cons g x xs, sum_by-cons h x xs, same x, sum_both f g h xs same)
 
+-- the same terms below the end
+same_within : (f g : ℕ → ℕ) (from n : ℕ) → ((x : ℕ) → x < from + n → f x ≡ g x) → sum_by f (range_with_len from n) ≡ sum_by g (range_with_len from n)
+same_within f g from zero same = refl
+same_within f g from (suc n) same = omega (
+  arith,
+  sum_by-cons f from (range_with_len (from + 1) n),
+  sum_by-cons g from (range_with_len (from + 1) n),
+  same from (omega arith),
+  same_within f g (from + 1) n (λ x low. same x (omega (arith, low))),
+)
+
+pub same_sum : (f g : ℕ → ℕ) (n : ℕ) → ((x : ℕ) → x < n → f x ≡ g x) → sum_by f (range_with_len 0 n) ≡ sum_by g (range_with_len 0 n)
+same_sum f g n same = same_within f g 0 n (λ x low. same x (omega (arith, low)))
+
 -- ---- a sum of which one term is another
 
 module _ (f g : ℕ → ℕ) (k : ℕ) (same : (x : ℕ) → x ≢ k → f x ≡ g x) where
