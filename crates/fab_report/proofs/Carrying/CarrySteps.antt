@@ -1,12 +1,11 @@
 -- The terminals of all switches are carried along the delivered routes to a LID, channel by channel of the order.
-use Rattle.std.proofs.Common.{◌≡◌, ℕ, zero, suc, ◌+◌, ◌<◌, ◌≤◌, ◌⊎◌, inl, inr, true, List, [], ◌∷◌, ◌++◌, length, set, refl, sym, ◌∙◌, ap, subst, arith, Some, slice_get}
-use Rattle.std.specs.Prelude.{Contains, reverse, sum, sum_by, slice_index}
-use Rattle.std.specs.List.{range_with_len}
+use Rattle.std.proofs.Common.{◌≡◌, ℕ, ◌+◌, ◌<◌, ◌≤◌, ◌⊎◌, inl, inr, Bool, List, [], ◌∷◌, ◌++◌, length, set, refl, sym, ◌∙◌, ap, subst, arith, Some, slice_get}
+use Rattle.std.specs.Prelude.{◌==◌, Contains, reverse, sum, count_by, slice_index, if◌then◌else◌}
+use Rattle.std.specs.List.{list_any}
 use Rattle.std.proofs.lemmas.Bool.{cases_lt}
 use Rattle.std.proofs.lemmas.List.{get_or_past, reverse-append}
 use Rattle.std.proofs.lemmas.List.Elements.{All-contains}
-use Rattle.std.proofs.lemmas.List.FromFn.{fill_by_all}
-use Rattle.std.proofs.lemmas.List.Sums.{sum_by-cons, sum-map, count_by-le-length}
+use Rattle.std.proofs.lemmas.List.Sums.{sum_by-cons, count_by-le-length}
 use Rattle.std.proofs.lemmas.Option.{slice_get_within, get_or_from_slice_get}
 use Rattle.fab_model.specs.declared.rows.ChannelId.{ChannelId}
 use Rattle.fab_model.specs.declared.rows.ChannelRow.{ChannelRow}
@@ -18,46 +17,39 @@ use Rattle.fab_tables.specs.Entries.{Entries}
 use Rattle.fab_tables.specs.Reaching.{IsToward}
 use Rattle.fab_tables.specs.Route.{tip, tip_of_row, route}
 use Rattle.fab_tables.proofs.Joined.Tips.{tip_below}
-use Rattle.fab_tables.proofs.Paths.Carried.{IsCarrying, all_added, added_along, moved, count_fits, amount_fits, carried_on, all_carried}
-use Rattle.fab_tables.proofs.Paths.SwitchSums.{by_switch}
+use Rattle.fab_tables.proofs.Paths.Carried.{IsCarrying, all_added, moved, count_fits, amount_fits, carried_on, all_carried, terminals_added, terminals_in_all}
 use Rattle.fab_report.specs.Loads.{is_loaded_by}
-use Rattle.fab_report.specs.Counting.{AreCounts, terminals_on, load_from}
+use Rattle.fab_report.specs.Counting.{AreCounts, terminals_on, load_to}
 use Rattle.fab_report.specs.Order.{way, tail_of_row, tails, IsLaid, AreInOrder, IsWholeOrder}
-use Rattle.fab_report.proofs.Carrying.RouteWays.{are_ways, adds_as_route}
-use Rattle.fab_report.proofs.Reporting.LoadSums.{by_terminals}
+use Rattle.fab_report.proofs.Carrying.RouteWays.{are_ways, loaded_as_route}
 
 -- ---- the terminals at first
 
-same_sum : (f g : ℕ → ℕ) (from n : ℕ) → ((x : ℕ) → x < from + n → f x ≡ g x) → sum_by f (range_with_len from n) ≡ sum_by g (range_with_len from n)
-same_sum f g from zero same = refl
-same_sum f g from (suc n) same = omega (
+same_count : (p q : TerminalRow → Bool) (rows : List TerminalRow) → ((row : TerminalRow) → p row ≡ q row) → count_by p rows ≡ count_by q rows
+same_count p q [] same = refl
+same_count p q (row ∷ rows) same = omega (
   arith,
-  sum_by-cons f from (range_with_len (from + 1) n),
-  sum_by-cons g from (range_with_len (from + 1) n),
-  same from (omega arith),
-  same_sum f g (from + 1) n (λ x low. same x (omega (arith, low))),
+  sum_by-cons (λ (r : TerminalRow). if p r then 1 else 0) row rows,
+  sum_by-cons (λ (r : TerminalRow). if q r then 1 else 0) row rows,
+  ap {B = ℕ} (λ (b : Bool). if b then 1 else 0) (same row),
+  same_count p q rows same,
 )
 
 module _ (t : Topology) (e : Entries) (lid : ℕ) (fabric : IsFabric t) (amounts : List ℕ) (are : AreCounts (terminals_on t) (length t.switches) amounts) where
-  -- they add what all routes add
-  pub added_by_routes : (channel : ℕ) → all_added (way t e lid) (length t.switches) amounts channel ≡ sum_by (load_from t e lid channel) (range_with_len 0 (length t.switches))
-  added_by_routes channel = same_sum (λ s. added_along (slice_index amounts s) (way t e lid s) channel) (load_from t e lid channel) 0 (length t.switches)
-      (λ s low. ap (λ (k : ℕ). added_along k (way t e lid s) channel) (are.each s (omega (arith, low))) ∙ adds_as_route t e lid (terminals_on t s) s channel)
+  stands_low : (row : TerminalRow) → In row t.terminals → row.switch.0 < length t.switches
+  stands_low row at = in_all (λ (r : TerminalRow). r.switch.0 < length t.switches) t.terminals fabric.rows.terminal_switches row at
+
+  -- they add what all routes to the LID add
+  pub added_by_routes : (channel : ℕ) → all_added (way t e lid) (length t.switches) amounts channel ≡ load_to t e channel lid
+  added_by_routes channel =
+      terminals_added (way t e lid) t.terminals (length t.switches) amounts are.whole are.each stands_low channel
+      ∙ same_count (λ row. list_any (λ c. c == channel) (way t e lid row.switch.0)) (λ row. is_loaded_by channel (route t e row.switch.0 lid)) t.terminals (λ row. loaded_as_route t e lid row.switch.0 channel)
 
   pub few_added : (channel : ℕ) → all_added (way t e lid) (length t.switches) amounts channel ≤ 16384
-  few_added channel = omega (arith, added_by_routes channel, by_terminals t e lid channel fabric, count_by-le-length (λ (p : TerminalRow). is_loaded_by channel (route t e p.switch.0 lid)) t.terminals, fabric.rows.lid_count)
+  few_added channel = omega (arith, added_by_routes channel, count_by-le-length (λ (p : TerminalRow). is_loaded_by channel (route t e p.switch.0 lid)) t.terminals, fabric.rows.lid_count)
 
   pub few_terminals : sum amounts ≤ 16384
-  few_terminals =
-      let all : sum amounts ≡ sum_by (terminals_on t) (range_with_len 0 (length t.switches)) =
-      ap (λ (xs : List ℕ). sum xs) (fill_by_all (terminals_on t) amounts (length t.switches) 0 are.whole are.each) ∙ sum-map (terminals_on t) (range_with_len 0 (length t.switches)) in
-      omega (
-        arith,
-        all,
-        by_switch (λ (s : ℕ). true) t.terminals (length t.switches) (λ row at. in_all (λ (r : TerminalRow). r.switch.0 < length t.switches) t.terminals fabric.rows.terminal_switches row at),
-        count_by-le-length (λ (row : TerminalRow). true) t.terminals,
-        fabric.rows.lid_count,
-      )
+  few_terminals = omega (arith, terminals_in_all (way t e lid) t.terminals (length t.switches) amounts are.whole are.each stands_low, fabric.rows.lid_count)
 
 -- ---- under way
 
@@ -142,13 +134,13 @@ module _ (t : Topology) (e : Entries) (lid : ℕ) (toward : IsToward t e lid) (i
         on (inr stands) = inr (in_from_Contains (tails t below) (tip t c.0) stands)
 
 pub carrying_ends : (t : Topology) (e : Entries) (lid : ℕ) (initial terminals : List ℕ) (stack : List ChannelId) (counts amounts : List ℕ) → IsFabric t → AreCounts (terminals_on t) (length t.switches) terminals → stack ≡ [] →
-    IsUnderWay t e lid initial terminals stack counts amounts → AreCounts (λ channel. slice_index initial channel + sum_by (load_from t e lid channel) (range_with_len 0 (length t.switches))) (length t.channels) counts
+    IsUnderWay t e lid initial terminals stack counts amounts → AreCounts (λ channel. slice_index initial channel + load_to t e channel lid) (length t.channels) counts
 carrying_ends t e lid initial terminals stack counts amounts fabric are none now = record { whole = now.whole; each = each }
   where
     done : IsUnderWay t e lid initial terminals [] counts amounts
     done = subst (λ (xs : List ChannelId). IsUnderWay t e lid initial terminals xs counts amounts) none now
 
-    each : (channel : ℕ) → channel < length t.channels → slice_index counts channel ≡ slice_index initial channel + sum_by (load_from t e lid channel) (range_with_len 0 (length t.switches))
+    each : (channel : ℕ) → channel < length t.channels → slice_index counts channel ≡ slice_index initial channel + load_to t e channel lid
     each channel low = omega (
       arith,
       all_carried (way t e lid) (length t.switches) (length t.channels) (sum terminals) (λ x. slice_index initial x + all_added (way t e lid) (length t.switches) terminals x) counts amounts done channel low,

@@ -8,10 +8,9 @@ use Rattle.fab_tables.specs.declared.end.End.{End}
 use Rattle.fab_tables.specs.declared.end.End.TheVariants.{Delivered, NoEntry, DeadPort, Astray, Loop}
 use Rattle.fab_tables.specs.Entries.{Entries}
 use Rattle.fab_tables.specs.Route.{tip, route}
-use Rattle.fab_tables.proofs.Paths.Carried.{AreWays, added_along}
+use Rattle.fab_tables.proofs.Paths.Carried.{AreWays}
 use Rattle.fab_tables.proofs.Paths.Routes.{delivered_or_not}
-use Rattle.fab_report.specs.Loads.{is_delivered}
-use Rattle.fab_report.specs.Counting.{added_by}
+use Rattle.fab_report.specs.Loads.{is_delivered, is_loaded_by}
 use Rattle.fab_report.specs.Order.{way}
 use Rattle.fab_report.proofs.Carrying.WalkedRoutes.{goes_after}
 
@@ -44,10 +43,10 @@ module _ (t : Topology) (e : Entries) (lid : ℕ) where
       go d [] is = inl (way_delivered s d ∙ is)
       go d (c ∷ cs) is = inr (c, way_goes good s c cs d is)
 
-  -- what a way adds is what its route adds
-  pub adds_as_route : (terminals s channel : ℕ) → added_along terminals (way t e lid s) channel ≡ added_by terminals (route t e s lid) channel
-  adds_as_route terminals s channel = go (is_delivered (route t e s lid).end)
+  -- a way contains what a delivered route does
+  pub loaded_as_route : (s channel : ℕ) → list_any (λ c. c == channel) (way t e lid s) ≡ is_loaded_by channel (route t e s lid)
+  loaded_as_route s channel = go (is_delivered (route t e s lid).end)
     where
-      go : (b : Bool) → added_along terminals (if b then (route t e s lid).channels else []) channel ≡ (if b && list_any (λ c. c == channel) (route t e s lid).channels then terminals else 0)
+      go : (b : Bool) → list_any (λ c. c == channel) (if b then (route t e s lid).channels else []) ≡ (b && list_any (λ c. c == channel) (route t e s lid).channels)
       go true = refl
       go false = refl

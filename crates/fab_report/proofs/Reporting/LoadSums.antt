@@ -1,7 +1,6 @@
 -- Counting loads, LID by LID.
 use Rattle.std.proofs.Common.{◌≡◌, ℕ, ◌+◌, ◌<◌, ◌≤◌, ◌^◌, inl, inr, Bool, true, false, List, [], ◌∷◌, ◌++◌, length, take, get_or, set, refl, sym, ◌∙◌, ap, subst, arith, Some, slice_get, replicate, length-set, get_or-set_other}
 use Rattle.std.specs.Prelude.{◌==◌, All, sum_by, count_by, slice_index, if◌then◌else◌}
-use Rattle.std.specs.List.{range_with_len}
 use Rattle.std.proofs.lemmas.Bool.{cases_eq, eq-eqb, ne_eqb}
 use Rattle.std.proofs.lemmas.Option.{get_or_from_slice_get}
 use Rattle.std.proofs.lemmas.List.{get_or-set_same, get_or_default, take_all, length-replicate, get_or-replicate, length-take-le}
@@ -10,53 +9,40 @@ use Rattle.std.proofs.lemmas.List.Sums.{sum_by_more, sum_by-take-le, sum_by-le, 
 use Rattle.fab_model.specs.declared.rows.TerminalRow.{TerminalRow}
 use Rattle.fab_model.specs.Topology.{Topology, lids_of}
 use Rattle.fab_model.specs.WellFormed.{IsFabric}
-use Rattle.fab_model.proofs.Lists.Members.{In, in_all}
+use Rattle.fab_model.proofs.Lists.Members.{in_all}
 use Rattle.fab_model.proofs.Faultless.Facts.{slice_get_in}
 use Rattle.fab_model.proofs.Order.{lids_are_counted}
 use Rattle.fab_tables.specs.Entries.{Entries}
 use Rattle.fab_tables.specs.Route.{route}
-use Rattle.fab_tables.proofs.Paths.SwitchSums.{by_switch}
 use Rattle.fab_report.specs.Loads.{is_loaded_by, load_of, loads_of}
-use Rattle.fab_report.specs.Counting.{load_from, AreCounts}
+use Rattle.fab_report.specs.Counting.{load_to, AreCounts}
 
--- the loads by all routes to a LID
-pub by_terminals : (t : Topology) (e : Entries) (lid channel : ℕ) → IsFabric t → sum_by (load_from t e lid channel) (range_with_len 0 (length t.switches)) ≡ count_by (λ (p : TerminalRow). is_loaded_by channel (route t e p.switch.0 lid)) t.terminals
-by_terminals t e lid channel is =
-    by_switch (λ s. is_loaded_by channel (route t e s lid)) t.terminals (length t.switches)
-    (λ row at. in_low row at)
-  where
-    in_low : (row : TerminalRow) → In row t.terminals → row.switch.0 < length t.switches
-    in_low row at = in_all (λ (r : TerminalRow). r.switch.0 < length t.switches) t.terminals is.rows.terminal_switches row at
+-- ---- over LIDs
 
--- ---- over LIDs and terminals
-
-abbrev pub by_lid : Topology → Entries → ℕ → ℕ → ℕ
-by_lid t e channel lid = count_by (λ (p : TerminalRow). is_loaded_by channel (route t e p.switch.0 lid)) t.terminals
-
-pub lid_added : (t : Topology) (e : Entries) (k lid : ℕ) (old new : List ℕ) → IsFabric t → k < length (lids_of t) → lid ≡ get_or (lids_of t) k 0 → AreCounts (λ c. sum_by (by_lid t e c) (take k (lids_of t))) (length t.channels) old →
-    AreCounts (λ c. slice_index old c + sum_by (load_from t e lid c) (range_with_len 0 (length t.switches))) (length t.channels) new → AreCounts (λ c. sum_by (by_lid t e c) (take (k + 1) (lids_of t))) (length t.channels) new
-lid_added t e k lid old new is h at so_far added = record {
+pub lid_added : (t : Topology) (e : Entries) (k lid : ℕ) (old new : List ℕ) → k < length (lids_of t) → lid ≡ get_or (lids_of t) k 0 → AreCounts (λ c. sum_by (load_to t e c) (take k (lids_of t))) (length t.channels) old →
+    AreCounts (λ c. slice_index old c + load_to t e c lid) (length t.channels) new → AreCounts (λ c. sum_by (load_to t e c) (take (k + 1) (lids_of t))) (length t.channels) new
+lid_added t e k lid old new h at so_far added = record {
   whole = added.whole;
-  each = λ c low. omega (arith, added.each c low, so_far.each c low, by_terminals t e lid c is, sum_by_more (by_lid t e c) (lids_of t) k 0 h, ap (λ n. by_lid t e c n) at);
+  each = λ c low. omega (arith, added.each c low, so_far.each c low, sum_by_more (load_to t e c) (lids_of t) k 0 h, ap (λ n. load_to t e c n) at);
 }
 
-pub loads_small : (t : Topology) (e : Entries) (k : ℕ) (counts : List ℕ) → IsFabric t → AreCounts (λ c. sum_by (by_lid t e c) (take k (lids_of t))) (length t.channels) counts → All (λ n. n < 2 ^ 32) counts
+pub loads_small : (t : Topology) (e : Entries) (k : ℕ) (counts : List ℕ) → IsFabric t → AreCounts (λ c. sum_by (load_to t e c) (take k (lids_of t))) (length t.channels) counts → All (λ n. n < 2 ^ 32) counts
 loads_small t e k counts is so_far c d low =
-    let each : (lid : ℕ) → by_lid t e c lid ≤ 16384 = λ lid. omega (arith, count_by-le-length (λ (p : TerminalRow). is_loaded_by c (route t e p.switch.0 lid)) t.terminals, is.rows.lid_count) in
+    let each : (lid : ℕ) → load_to t e c lid ≤ 16384 = λ lid. omega (arith, count_by-le-length (λ (p : TerminalRow). is_loaded_by c (route t e p.switch.0 lid)) t.terminals, is.rows.lid_count) in
     omega (
       arith,
       so_far.each c (omega (arith, low, so_far.whole)),
       get_or_default counts c d 0 low,
-      sum_by-take-le (by_lid t e c) (lids_of t) k,
-      sum_by-le (by_lid t e c) 16384 (lids_of t) (λ i d' i_low. each (get_or (lids_of t) i d')),
+      sum_by-take-le (load_to t e c) (lids_of t) k,
+      sum_by-le (load_to t e c) 16384 (lids_of t) (λ i d' i_low. each (get_or (lids_of t) i d')),
       lids_are_counted t,
       is.rows.lid_count,
     )
 
-pub loads_are : (t : Topology) (e : Entries) (k : ℕ) (counts : List ℕ) → length (lids_of t) ≤ k → AreCounts (λ c. sum_by (by_lid t e c) (take k (lids_of t))) (length t.channels) counts → counts ≡ loads_of t e
+pub loads_are : (t : Topology) (e : Entries) (k : ℕ) (counts : List ℕ) → length (lids_of t) ≤ k → AreCounts (λ c. sum_by (load_to t e c) (take k (lids_of t))) (length t.channels) counts → counts ≡ loads_of t e
 loads_are t e k counts h so_far =
     fill_by_all (λ c. load_of t e c) counts (length t.channels) 0 so_far.whole
-    (λ c low. so_far.each c low ∙ ap (λ (lids : List ℕ). sum_by (by_lid t e c) lids) (take_all k (lids_of t) h))
+    (λ c low. so_far.each c low ∙ ap (λ (lids : List ℕ). sum_by (load_to t e c) lids) (take_all k (lids_of t) h))
 
 -- counts of no LID and no terminal
 pub no_counts : (f : ℕ → ℕ) (n m : ℕ) (counts : List ℕ) → m ≡ n → counts ≡ replicate m 0 → ((k : ℕ) → f k ≡ 0) → AreCounts f n counts

@@ -19,7 +19,7 @@ loop-lid-preserved c =
     record {
       counts =
           whole_counts (length t.channels) _ c.add_routes.new.counts _ (omega (arith, c.deref_mut-in-loop-lid.ensures.len, ap (λ (xs : List ℕ). length xs) c.deref_mut-in-loop-lid.ensures.value, c.loop-lid.invariant.counts.whole, added.whole))
-          (lid_added t c.args.tables.now k _ c.deref_mut-in-loop-lid.result.now _ c.channels.ensures.kept (omega (arith, as_many lids (lids_of t) c.lids_in_use-lid-items.ensures.lids, c.loop-lid-test.true))
+          (lid_added t c.args.tables.now k _ c.deref_mut-in-loop-lid.result.now _ (omega (arith, as_many lids (lids_of t) c.lids_in_use-lid-items.ensures.lids, c.loop-lid-test.true))
           (sym (number_at lids (lids_of t) c.lids_in_use-lid-items.ensures.lids k _ 0 c.loop-lid-test.true))
           (same_counts (length t.channels) c.deref_mut-in-loop-lid.result.now c.loop-lid.counts.items c.deref_mut-in-loop-lid.ensures.value c.loop-lid.invariant.counts) added);
       amounts = omega (arith, length-take {A = ℕ}, length-append {A = ℕ}, length-drop {A = ℕ}, c.copy_from_slice.new.self.ok.0, c.copy_from_slice.ensures.len, c.deref_mut.ensures.len, ap (λ (xs : List ℕ). length xs) c.deref_mut.ensures.value, c.add_routes.auto.amounts, c.loop-lid.invariant.amounts);
