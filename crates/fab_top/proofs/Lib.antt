@@ -14,4 +14,5 @@ pub mod Loading
 pub mod Showing
 pub mod Laying
 pub mod Answering
+pub mod TextLengths
 mod Examples
