@@ -160,15 +160,6 @@ module _ (t : Topology) (weight : ℕ → ℕ) (to : ℕ) (found : List (Option 
     pub one_less_open : count_by is_none grown + 1 ≡ count_by is_none found
     one_less_open = omega (arith, sum_by-set (λ (o : Option ℕ). cond (is_none o) 1 0) found y (Some distance) None (omega (arith, taken_low, near.each_switch)), ap (λ (o : Option ℕ). cond {A = ℕ} (is_none o) 1 0) none)
 
-    pub settled_small : distance + weight_limit ≤ count_by is_some grown * weight_limit
-    settled_small = omega (arith, one_more_settled, of_taken (λ o. offered_distance o ≤ count_by is_some found * weight_limit) near.small)
-
-    pub settled_farthest : (s n : ℕ) → IsFound grown s n → n ≤ distance
-    settled_farthest s n at = elim (found_before s n at) [
-      | inl here ↦ omega (arith, here.1)
-      | inr before ↦ of_taken (λ o. n ≤ offered_distance o) (near.farther s n before)
-    ]
-
     attained_still : (s n : ℕ) → IsAttained t weight to found s n → IsAttained t weight to grown s n
     attained_still s n (inl here) = inl here
     attained_still s n (inr further) = inr (further.0, further.1, further.2, found_still (tip t further.0) further.1 further.3, further.4, further.5)
