@@ -8,3 +8,4 @@ pub mod OneTable
 pub mod RoutesLeast
 pub mod Turns
 pub mod WeightsSame
+pub mod TablesExist

@@ -33,17 +33,18 @@ pub fn distances(
     let mut offers = BinaryHeap::new(alloc);
     offers.push(Reverse((0, to.0)))?;
     while let Some(Reverse((distance, switch))) = offers.pop() {
-        if found[switch as usize].is_none() {
-            found[switch as usize] = Some(distance);
-            offer(
-                fabric,
-                weights,
-                SwitchId(switch),
-                distance,
-                &found,
-                &mut offers,
-            )?;
+        if found[switch as usize].is_some() {
+            continue;
         }
+        found[switch as usize] = Some(distance);
+        offer(
+            fabric,
+            weights,
+            SwitchId(switch),
+            distance,
+            &found,
+            &mut offers,
+        )?;
     }
     Ok(found)
 }
