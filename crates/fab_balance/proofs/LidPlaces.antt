@@ -43,14 +43,11 @@ module _ (t : Topology) (good : IsWellFormed t) (row : TerminalRow) (listed : Co
   -- two terminals with one LID are one
   one_terminal : (other : TerminalRow) → Contains t.terminals other → other.lid.0 ≡ row.lid.0 → other ≡ row
   one_terminal other has same = elim (cases_order has.0 listed.0) [
-    | inl e ↦ (sym (there other has.0 has.2) ∙ ap (λ k. slice_index_or t.terminals k other) e ∙ as_row)
-    | inr (inl less) ↦ absurd (omega (arith, same, good.terminal_lids_rise has.0 listed.0 other less listed.1, ap (λ (r : TerminalRow). r.lid.0) (there other has.0 has.2), ap (λ (r : TerminalRow). r.lid.0) as_row))
-    | inr (inr more) ↦ absurd (omega (arith, same, good.terminal_lids_rise listed.0 has.0 other more has.1, ap (λ (r : TerminalRow). r.lid.0) (there other has.0 has.2), ap (λ (r : TerminalRow). r.lid.0) as_row))
+    | inl e ↦ (sym has.2 ∙ ap (λ k. slice_index_or t.terminals k other) e ∙ as_row)
+    | inr (inl less) ↦ absurd (omega (arith, same, good.terminal_lids_rise has.0 listed.0 other less listed.1, ap (λ (r : TerminalRow). r.lid.0) has.2, ap (λ (r : TerminalRow). r.lid.0) as_row))
+    | inr (inr more) ↦ absurd (omega (arith, same, good.terminal_lids_rise listed.0 has.0 other more has.1, ap (λ (r : TerminalRow). r.lid.0) has.2, ap (λ (r : TerminalRow). r.lid.0) as_row))
   ]
     where
-      there : (r : TerminalRow) (k : ℕ) → slice_index_or t.terminals k r ≡ r → slice_index_or t.terminals k r ≡ r
-      there r k e = e
-
       as_row : slice_index_or t.terminals listed.0 other ≡ row
       as_row = get_or_default t.terminals listed.0 other row listed.1 ∙ listed.2
 

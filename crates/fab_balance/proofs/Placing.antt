@@ -1,5 +1,5 @@
 -- The places of the LIDs are written into tables one after the other.
-use Rattle.std.proofs.Common.{◌≡◌, ◌≢◌, ℕ, zero, suc, ◌+◌, ◌*◌, ◌<◌, ◌≤◌, ◌⊎◌, inl, inr, List, length, Option, Some, None, refl, sym, ◌∙◌, ap, subst, arith, Contains}
+use Rattle.std.proofs.Common.{◌≡◌, ◌≢◌, ℕ, zero, suc, ◌+◌, ◌<◌, ◌≤◌, ◌⊎◌, inl, inr, List, length, Option, Some, None, refl, sym, ◌∙◌, ap, subst, arith, Contains}
 use Rattle.std.specs.Prelude.{slice_index, slice_index_or, replicate}
 use Rattle.std.proofs.lemmas.Bool.{cases_lt, cases_eq}
 use Rattle.std.proofs.lemmas.Option.{same_Some}
@@ -8,7 +8,7 @@ use Rattle.fab_model.specs.declared.rows.Place.{Place}
 use Rattle.fab_model.specs.Topology.{Topology, place_of, lids_of}
 use Rattle.fab_model.specs.Connected.{IsConnectedTo}
 use Rattle.fab_model.specs.WellFormed.{IsFabric}
-use Rattle.fab_tables.specs.Entries.{Entries, index_of, cell, entry, port_in_column, with_entry, no_entries}
+use Rattle.fab_tables.specs.Entries.{Entries, index_of, entry, port_in_column, with_entry, no_entries}
 use Rattle.fab_tables.specs.Fit.{EntriesFit}
 use Rattle.fab_tables.specs.FixedEntries.{HasFixedEntries}
 use Rattle.fab_tables.proofs.Joined.Lids.{lid_in_use}
@@ -35,7 +35,7 @@ no_entry count lids s lid = go (index_of lid lids)
   where
     go : (place : Option ℕ) → port_in_column (no_entries count lids) s place ≡ 255
     go None = refl
-    go (Some i) = all_alike (count * length lids) 255 (cell (length lids) s i)
+    go (Some i) = grind (arith, all_alike)
 
 pub none_placed : (t : Topology) (e : Entries) → IsFabric t → e ≡ no_entries (length t.switches) (lids_of t) → HasPlaced t e 0
 none_placed t e good is = record {
@@ -78,37 +78,16 @@ module _ (t : Topology) (is : IsFabric t) (e : Entries) (count lid : ℕ) (place
               let same : among.0 ≡ count = omega (arith, more, among.1) in
               absurd (other (sym among.3 ∙ ap (λ j. slice_index (lids_of t) j) same ∙ here))
 
+      as_before : (s n : ℕ) → entry (with_entry e place.switch.0 lid place.port) s n ≡ entry e s n → (entry e s n ≡ 255) ⊎ ((p : Place) × (place_of t n ≡ Some p) × (p.switch.0 ≡ s)) →
+          (entry (with_entry e place.switch.0 lid place.port) s n ≡ 255) ⊎ ((p : Place) × (place_of t n ≡ Some p) × (p.switch.0 ≡ s))
+      as_before s n k (inl x) = inl (k ∙ x)
+      as_before s n k (inr x) = inr x
+
       others_more : (s n : ℕ) → (n ≡ lid) ⊎ (n ≢ lid) → (s ≡ place.switch.0) ⊎ (s ≢ place.switch.0) →
           (entry (with_entry e place.switch.0 lid place.port) s n ≡ 255) ⊎ ((p : Place) × (place_of t n ≡ Some p) × (p.switch.0 ≡ s))
       others_more s n (inl same) (inl own) = inr (place, ap (λ m. place_of t m) same ∙ at, sym own)
-      others_more s n (inl same) (inr other) = as_before (kept s n (λ a b. other a)) (before.others s n)
-        where
-          as_before : entry (with_entry e place.switch.0 lid place.port) s n ≡ entry e s n → (entry e s n ≡ 255) ⊎ ((p : Place) × (place_of t n ≡ Some p) × (p.switch.0 ≡ s)) →
-              (entry (with_entry e place.switch.0 lid place.port) s n ≡ 255) ⊎ ((p : Place) × (place_of t n ≡ Some p) × (p.switch.0 ≡ s))
-          as_before k (inl x) = inl (k ∙ x)
-          as_before k (inr x) = inr x
-      others_more s n (inr other) w = as_before (kept s n (λ a b. other b)) (before.others s n)
-        where
-          as_before : entry (with_entry e place.switch.0 lid place.port) s n ≡ entry e s n → (entry e s n ≡ 255) ⊎ ((p : Place) × (place_of t n ≡ Some p) × (p.switch.0 ≡ s)) →
-              (entry (with_entry e place.switch.0 lid place.port) s n ≡ 255) ⊎ ((p : Place) × (place_of t n ≡ Some p) × (p.switch.0 ≡ s))
-          as_before k (inl x) = inl (k ∙ x)
-          as_before k (inr x) = inr x
-
--- a LID without a place would change nothing
-pub none_to_place : (t : Topology) (e : Entries) (count lid : ℕ) → HasPlaced t e count → slice_index (lids_of t) count ≡ lid → place_of t lid ≡ None → HasPlaced t e (count + 1)
-none_to_place t e count lid before here none = record {
-  fits = before.fits;
-  own = λ n p among there. before.own n p (among.0, earlier n p there among (cases_lt among.0 count), among.2, among.3) there;
-  others = before.others;
-}
-  where
-    earlier : (n : ℕ) (p : Place) → place_of t n ≡ Some p → (among : IsAmongFirst t (count + 1) n) → (among.0 < count) ⊎ (count ≤ among.0) → among.0 < count
-    earlier n p there among (inl less) = less
-    earlier n p there among (inr more) =
-        let same : among.0 ≡ count = omega (arith, more, among.1) in
-        let at_n : n ≡ lid = sym among.3 ∙ ap (λ j. slice_index (lids_of t) j) same ∙ here in
-        let clash : None ≡ Some p = sym none ∙ ap (λ m. place_of t m) (sym at_n) ∙ there in
-        cc
+      others_more s n (inl same) (inr other) = as_before s n (kept s n (λ a b. other a)) (before.others s n)
+      others_more s n (inr other) w = as_before s n (kept s n (λ a b. other b)) (before.others s n)
 
 pub all_placed : (t : Topology) (e : Entries) (count : ℕ) → HasPlaced t e count → length (lids_of t) ≤ count → HasFixedEntries t e
 all_placed t e count placed end = record {

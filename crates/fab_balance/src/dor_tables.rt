@@ -1,7 +1,7 @@
 //! The routing engine DOR, dimension order: shortest routes by the least port. The port numbers stand for the
 //! dimensions, so that ports must be cabled alike at all switches by whoever builds the fabric.
 //!
-//! Time: the sum over the switches of LIDs times channels of the switch. Memory: the tables.
+//! Time: LIDs times switches and channels, less where a switch's first ports lead nearer. Memory: the tables.
 //! Source: OpenSM's document on routing, engine `dor`; Dally and Seitz on dimension order.
 ghost use Rattle.std.specs.Prelude.{◌<◌, length, IfOk};
 ghost use Rattle.fab_model.specs.WellFormed.{IsFabric};

@@ -14,9 +14,8 @@ pub(crate) fn with_fixed_entries(alloc: Global, fabric: &Fabric) -> Result<Table
 {
     let mut tables = Tables::new(alloc, fabric)?;
     for lid in fabric.lids_in_use() {
-        if let Some(place) = fabric.place_of(*lid) {
-            tables.set(place.switch, *lid, place.port);
-        }
+        let place = fabric.place_of(*lid).unwrap();
+        tables.set(place.switch, *lid, place.port);
     }
     Ok(tables)
 }

@@ -4,7 +4,7 @@
 //! to a switch with one hop less to the LID's switch; the entry is the eligible port with the least load, and of
 //! those the least one. The load of a port is the number of terminals' LIDs that went by it so far at this switch.
 //!
-//! Time: the sum over the switches of LIDs times channels of the switch. Memory: the tables, and 2 KiB.
+//! Time: LIDs times switches and channels. Memory: the tables, and about 1 KiB.
 //! Source: OpenSM's document on routing, engine `minhop`.
 ghost use Rattle.std.specs.Prelude.{◌<◌, length, IfOk, OnOk};
 ghost use Rattle.fab_model.specs.WellFormed.{IsFabric};

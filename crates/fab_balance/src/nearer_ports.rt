@@ -9,8 +9,8 @@ use fab_hops::Hops;
 use fab_model::{ChannelId, Fabric, SwitchId};
 use std::alloc::AllocError;
 
-/// Puts the ports of a switch that lead nearer to another switch, ascending, in place of the list's. There is none
-/// where the two are one or not connected. The error is want of memory.
+/// Puts the ports of a switch that lead nearer to another switch in place of the list's. There is none where the two
+/// are one or not connected. The error is want of memory.
 pub(crate) fn find_nearer_ports(
     fabric: &Fabric,
     hops: &Hops,
