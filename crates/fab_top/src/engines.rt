@@ -1,6 +1,5 @@
 //! The engines: what each of them lays for a fabric. The time and memory are those of the engine's crate.
 ghost use Rattle.std.specs.Prelude.{◌≡◌, None};
-ghost use Rattle.fab_model.specs.WellFormed.{IsFabric};
 ghost use Rattle.fab_top.specs.declared.engines.EngineAnswer.TheVariants as engine_answer;
 ghost use Rattle.fab_top.specs.Outcomes.{LaysRightly};
 

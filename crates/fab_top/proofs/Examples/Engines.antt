@@ -1,5 +1,5 @@
 -- Words of the commands that route.
-use Rattle.std.proofs.Common.{◌≡◌, List, [], ◌∷◌, codes, refl}
+use Rattle.std.proofs.Common.{◌≡◌, [], ◌∷◌, codes, refl}
 use Rattle.std.specs.Prelude.{None, Some}
 use Rattle.fab_report.specs.declared.recipe.Kind.TheVariants.{Tree}
 use Rattle.fab_top.specs.declared.command.Command.TheVariants.{Route, Demo}
