@@ -1,0 +1,9 @@
+//! Escape trees: in each lane a spanning tree for each component, whose routes close no walk of channel dependencies.
+#![tactic(auto)]
+
+mod laws;
+
+pub use laws::{
+    escape_is_acyclic, escape_numbers_rise, escape_routes_lead, escape_tree_is_tree,
+    no_next_channel, one_forest, roots_tell_components, routes_stay_in_tree,
+};
