@@ -8,13 +8,14 @@ use Rattle.fab_model.specs.WellFormed.{IsWellFormed}
 use Rattle.fab_tables.specs.Route.{tip_of_row}
 use Rattle.fab_hops.specs.HopCounts.{IsHopCount}
 use Rattle.fab_hops.proofs.HopLaws.{one_hop_count, hops_small}
-use Rattle.fab_escape.specs.Forest.{Link, Forest, root_of, link_of, links_within, and_on}
+use Rattle.fab_escape.specs.declared.links.Link.{Link}
+use Rattle.fab_escape.specs.Forest.{Forest, root_of, link_of, links_within, and_on}
 use Rattle.fab_escape.specs.Trees.{LeadsUp, IsLink, IsLinked, IsEscapeForest}
 use Rattle.fab_escape.specs.EscapeSet.{depth_of}
-use Rattle.fab_escape.proofs.Climbing.{Climbs}
+use Rattle.fab_escape.specs.Climbing.{Climbs}
 use Rattle.fab_hops.proofs.HopWalks.{leads_below, no_hops}
 use Rattle.fab_model.proofs.Channels.{contains_read}
-use Rattle.fab_escape.proofs.Roots.{one_root}
+use Rattle.fab_escape.proofs.OneRoot.{one_root}
 
 -- the step from a switch by its link to the parent
 pub record Ascends (t : Topology) (f : Forest) (s : ℕ) (link : Link) : Type 0 where

@@ -1,6 +1,10 @@
 mod Examples
 pub mod Climbing
-pub mod Roots
+pub mod Making
+pub mod ParentChannels
+pub mod Climbed
+pub mod LinksInto
+pub mod OneRoot
 pub mod Depths
 pub mod NextChannels
 pub mod EndsOfRoutes
@@ -8,3 +12,4 @@ pub mod WholeTree
 pub mod Numbers
 pub mod EscapeTrees
 pub mod OneForest
+pub mod Kept

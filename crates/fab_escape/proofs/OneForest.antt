@@ -7,11 +7,12 @@ use Rattle.fab_model.specs.declared.rows.ChannelRow.{ChannelRow}
 use Rattle.fab_model.specs.Topology.{Topology, reversed, IsReverse}
 use Rattle.fab_model.specs.WellFormed.{IsWellFormed}
 use Rattle.fab_tables.specs.Route.{tip}
-use Rattle.fab_escape.specs.Forest.{Link, Forest, root_of, link_of}
+use Rattle.fab_escape.specs.declared.links.Link.{Link}
+use Rattle.fab_escape.specs.Forest.{Forest, root_of, link_of}
 use Rattle.fab_escape.specs.Trees.{LeadsUp, IsLink, IsLinked, IsEscapeForest}
 use Rattle.fab_escape.specs.Laws.{OneForest}
 use Rattle.fab_model.proofs.Channels.{channel_once}
-use Rattle.fab_escape.proofs.Roots.{root_is_one}
+use Rattle.fab_escape.proofs.OneRoot.{root_is_one}
 
 one_reverse : (t : Topology) → IsWellFormed t → (c r q : ℕ) (row : ChannelRow) → slice_get t.channels c ≡ Some row → IsReverse t c r → IsReverse t c q → r ≡ q
 one_reverse t good c r q row there x y =
