@@ -1,0 +1,4 @@
+pub mod Edges
+pub mod Listed
+pub mod Bound
+pub mod Laws

@@ -1,0 +1,9 @@
+//! An arena of channel dependencies that never closes a walk, and takes additions back.
+#![tactic(auto)]
+
+mod dep;
+mod edges;
+mod steps;
+
+pub use dep::{Added, Dep, Mark};
+pub use steps::Steps;
