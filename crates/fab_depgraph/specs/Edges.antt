@@ -1,11 +1,17 @@
 -- Edges with counts, in slots that are linked channel by channel.
 use Rattle.std.specs.Prelude.{◌≡◌, ◌≢◌, ◌⊎◌, ℕ, zero, suc, ◌+◌, ◌-◌, ◌<◌, ◌≤◌, ◌==◌, List, [], ◌∷◌, map, length, Option, Some, None, is_some, Bool, true, false, drop, count_by, slice_index_or, slice_set, if◌then◌else◌, nat_le, All}
 use Rattle.std.specs.List.{sum_by}
+use Rattle.fab_model.specs.declared.rows.ChannelId.{ChannelId}
+use Rattle.fab_model.specs.Topology.{channel_id}
 use Rattle.fab_depgraph.specs.declared.edges.Edge.{Edge}
 
 -- the successors of a channel, the newest first: the second channel of each edge, and how often it was added
 abbrev pub Row : Type 0
 Row = List (ℕ × ℕ)
+
+-- the second channels of a row
+abbrev pub channels_of : Row → List ChannelId
+channels_of row = map (λ edge. channel_id edge.0) row
 
 -- the rows of all channels, and how many edges fit without memory
 pub record EdgeRows : Type 0 where

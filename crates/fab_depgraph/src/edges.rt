@@ -4,8 +4,9 @@
 //! often it was added. An edge is found along its channel's links, so a call takes time linear in the edges of one
 //! channel. Memory is taken where room is made: 32 bytes an edge, 16 bytes a channel.
 ghost use Rattle.std.specs.Prelude.{◌≡◌, ℕ, ◌+◌, ◌^◌, ◌<◌, ◌≤◌, List, [], length, map, replicate, IfOk, OnOk, OnErr, Option};
+ghost use Rattle.std.specs.Iterator.{YieldsFirst, item_count};
 ghost use Rattle.slab.specs.Slab.{slab_len};
-ghost use Rattle.fab_depgraph.specs.Edges.{IsChain, IsFound, EdgeRows, row_at, edge_count, times_in, with_raised, with_lowered, CanBeLowered};
+ghost use Rattle.fab_depgraph.specs.Edges.{IsChain, IsFound, EdgeRows, row_at, edge_count, times_in, with_raised, with_lowered, CanBeLowered, channels_of};
 
 use fab_model::ChannelId;
 use slab::Slab;
@@ -75,6 +76,17 @@ impl Edges {
         }
     }
 
+    /// The channels to which the edges of a channel lead, the newest edge first.
+    pub(crate) fn successors(&self, first: ChannelId) -> Successors<'_>
+        requires { first.0 < length self.now.rows }
+        ensures { result ≡ channels_of (row_at self.now.rows first.0) }
+    {
+        Successors {
+            edges: &self.edges,
+            next: self.newest[first.0 as usize],
+        }
+    }
+
     /// Adds an edge once more. It takes no memory.
     pub(crate) fn raise(&mut self, first: ChannelId, second: ChannelId)
         requires within { first.0 < length self.old.rows }
@@ -110,6 +122,43 @@ impl Edges {
         } else {
             self.newest[first.0 as usize] = self.edges.remove(key).next;
         }
+    }
+}
+
+/// The channels to which the edges of one channel lead, the newest edge first. They are seen as the list of those
+/// that are left.
+#[derive(Drop)]
+pub(crate) struct Successors<'e> {
+    edges: &'e Slab<Edge>,
+    /// The key of the edge to the first of them.
+    next: Option<usize>,
+}
+
+impl<'e> Model for Successors<'e> {
+    ghost use Rattle.std.specs.Prelude.{List, ℕ, length, ◌≤◌};
+    ghost use Rattle.fab_model.specs.declared.rows.ChannelId.{ChannelId};
+    ghost use Rattle.slab.specs.Slab.{slab_len};
+
+    ghost Value = { List ChannelId };
+
+    ghost use Rattle.fab_depgraph.specs.Edges.{IsChain, linked_row, channels_of};
+
+    ghost view = { λ s. channels_of (linked_row (slab_len s.edges.now) s.edges.now.slots s.next) };
+
+    ghost invariant = { λ s. (keys : List ℕ) × IsChain s.edges.now.slots s.next keys × (length keys ≤ slab_len s.edges.now) };
+}
+
+impl<'e> Iterator for Successors<'e> {
+    type Item = ChannelId;
+
+    ghost next_gives = { YieldsFirst (λ rest. rest) };
+
+    ghost remaining = { item_count (λ rest. rest) };
+
+    fn next(&mut self) -> Option<ChannelId> {
+        let edge = &self.edges[self.next?];
+        self.next = edge.next;
+        Some(edge.second)
     }
 }
 

@@ -1,5 +1,5 @@
 -- The rows of linked edges.
-use Rattle.std.proofs.Common.{◌≡◌, ◌≢◌, ℕ, zero, suc, ◌<◌, ◌≤◌, true, false, List, [], ◌∷◌, length, map, slice_index_or, Option, Some, None, is_some, count_by, refl, sym, ◌∙◌, ap, subst, inl, inr, arith}
+use Rattle.std.proofs.Common.{unwrap_or, ◌≡◌, ◌≢◌, ℕ, zero, suc, ◌<◌, ◌≤◌, true, false, List, [], ◌∷◌, length, map, slice_index_or, Option, Some, None, is_some, count_by, refl, sym, ◌∙◌, ap, subst, inl, inr, arith}
 use Rattle.std.proofs.lemmas.Bool.{eq-eqb, ne_eqb, cases_eq}
 use Rattle.fab_depgraph.specs.declared.edges.Edge.{Edge}
 use Rattle.fab_depgraph.specs.Edges.{Slots, Row, slot, IsChain, IsFound, AreLinked, linked_row, edge_before, rows_in, times_key, times_in, leads_to, keys_at}
@@ -94,3 +94,31 @@ found_some slots second (first ∷ keys) key p =
             ];
           }
     ]
+
+-- what is left of a chain once its first edge was passed
+pub record IsPassed (slots : Slots) (n key : ℕ) (edge : Edge) : Type 0 where
+  pub keys : List ℕ
+  pub chain : IsChain slots edge.next keys
+  pub few : length keys ≤ n
+  pub row : linked_row n slots (Some key) ≡ (edge.second.0, edge.count) ∷ linked_row n slots edge.next
+
+pub first_key : (slots : Slots) (key : ℕ) (keys : List ℕ) → IsChain slots (Some key) keys → (edge : Edge) × (slot slots key ≡ Some edge)
+first_key slots key [] p = absurd (cc)
+first_key slots key (other ∷ keys) p = let at : Some key ≡ Some other = p.1 in (p.0, subst (λ k. slot slots k ≡ Some p.0) (ap (λ (o : Option ℕ). unwrap_or o 0) (sym at)) p.2)
+
+pub pass_first : (slots : Slots) (n key : ℕ) (edge : Edge) → slot slots key ≡ Some edge → (keys : List ℕ) → IsChain slots (Some key) keys → length keys ≤ n → IsPassed slots n key edge
+pass_first slots n key edge there [] p few = absurd (cc)
+pass_first slots n key edge there (other ∷ keys) p few =
+    let at : Some key ≡ Some other = p.1 in
+    let same : other ≡ key = ap (λ (o : Option ℕ). unwrap_or o 0) (sym at) in
+    let was : slot slots key ≡ Some p.0 = subst (λ k. slot slots k ≡ Some p.0) same p.2 in
+    let edges : p.0 ≡ edge = cc in
+    let chain : IsChain slots edge.next keys = subst (λ (e : Edge). IsChain slots e.next keys) edges p.3 in
+    let head : shown (slot slots other) ≡ (edge.second.0, edge.count) = ap shown (ap (slot slots) same ∙ there) in
+    let tail = linked_is_row slots n edge.next keys chain (omega arith) in
+    record {
+      keys = keys;
+      chain = chain;
+      few = omega arith;
+      row = linked_is_row slots n (Some key) (other ∷ keys) p few ∙ cc;
+    }

@@ -21,10 +21,10 @@ unwrap-key-requires c =
       finds = c.find.ensures;
     } in
     go c.find.result (look_unknown look)
-    where
-      go : (found : Option ℕ) → (found ≡ None → leads_to (row_at c.args.self.now.rows c.args.first.0) c.args.second.0 ≡ false) → IsSome found
-      go (Some key) unknown = refl
-      go None unknown = let e = unknown refl in let t = lowered_known (row_at c.args.self.now.rows c.args.first.0) c.args.second.0 c.requires.newest in absurd (cc)
+  where
+    go : (found : Option ℕ) → (found ≡ None → leads_to (row_at c.args.self.now.rows c.args.first.0) c.args.second.0 ≡ false) → IsSome found
+    go (Some key) unknown = refl
+    go None unknown = let e = unknown refl in let t = lowered_known (row_at c.args.self.now.rows c.args.first.0) c.args.second.0 c.requires.newest in absurd (cc)
 
 pub index-requires-2 : goal.index-requires-2
 index-requires-2 c =
