@@ -3,6 +3,7 @@
 
 mod dep;
 mod edges;
+mod order;
 mod steps;
 
 pub use dep::{Added, Dep, Mark};
