@@ -1,3 +1,4 @@
 pub mod Linking
 pub mod Ordering
+pub mod Searching
 pub mod Examples

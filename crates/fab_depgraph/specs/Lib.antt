@@ -1,5 +1,6 @@
 pub mod Edges
 pub mod Order
+pub mod Search
 pub mod Listed
 pub mod Bound
 pub mod Laws

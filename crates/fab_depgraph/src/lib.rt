@@ -4,6 +4,7 @@
 mod dep;
 mod edges;
 mod order;
+mod search;
 mod steps;
 
 pub use dep::{Added, Dep, Mark};

@@ -1,0 +1,2 @@
+-- The search forward.
+pub mod Found
