@@ -1,9 +1,8 @@
 -- A search forward along edges, among channels with lower numbers than one of them.
-use Rattle.std.specs.Prelude.{◌≡◌, ◌≢◌, ℕ, ◌+◌, ◌<◌, ◌≤◌, Bool, true, false, if◌then◌else◌, List, [], ◌∷◌, ◌++◌, length, slice_index, slice_index_or, slice_set, replicate, All, AllPairs, Contains, IsTrue}
+use Rattle.std.specs.Prelude.{◌≡◌, ◌≢◌, ℕ, ◌<◌, ◌≤◌, Bool, true, false, if◌then◌else◌, List, [], ◌∷◌, ◌++◌, length, slice_index, slice_set, replicate, All, AllPairs, Contains}
 use Rattle.std.specs.List.{sum_by}
 use Rattle.fab_model.specs.declared.rows.ChannelId.{ChannelId}
 use Rattle.fab_model.specs.Topology.{channel_id}
-use Rattle.fab_graph.specs.Walks.{Walk}
 use Rattle.fab_depgraph.specs.Edges.{Row, row_at, channels_of}
 use Rattle.fab_depgraph.specs.Order.{is_reached}
 

@@ -6,7 +6,7 @@
 //!
 //! Source: A. Marchetti-Spaccamela, U. Nanni, H. Rohnert, "Maintaining a Topological Order under Edge Insertions",
 //! Information Processing Letters 59 (1996).
-ghost use Rattle.std.specs.Prelude.{◌≡◌, ◌≢◌, ℕ, ◌+◌, ◌<◌, ◌≤◌, true, false, [], length, slice_index, slice_get, replicate, false, IfOk, All, Contains};
+ghost use Rattle.std.specs.Prelude.{◌≡◌, ◌≢◌, ℕ, ◌+◌, ◌^◌, ◌<◌, ◌≤◌, true, false, [], length, slice_index, slice_get, replicate, false, IfOk, All, Contains};
 ghost use Rattle.fab_graph.specs.Walks.{Walk};
 ghost use Rattle.fab_model.specs.Topology.{channel_id};
 ghost use Rattle.fab_depgraph.specs.Order.{is_reached};
@@ -64,6 +64,78 @@ impl Search {
     {
         unmark(&self.found, &mut self.marks);
         self.found.clear();
+    }
+
+    /// Searches forward from one channel, and answers whether it comes to the last one. If not, all channels are
+    /// found to which walks lead below the last one.
+    pub(crate) fn meets<L: Ledger>(
+        &mut self,
+        edges: &Edges,
+        order: &Order,
+        from: ChannelId,
+        last: ChannelId,
+        steps: &mut Steps<L>,
+    ) -> bool
+        requires clean { self.old ≡ no_search (length order.now) }
+        requires rising { AreRising edges.now.rows order.now }
+        requires from { from.0 < length order.now }
+        requires last { last.0 < length order.now }
+        requires below { slice_index order.now from.0 < slice_index order.now last.0 }
+        ensures meets { result ≡ true → (n : ℕ) × Walk (Precedes edges.now.rows) n from.0 last.0 }
+        ensures closed { result ≡ false → IsClosed edges.now.rows order.now from.0 last.0 self.new }
+        ensures each { length self.new.marks ≡ length order.now }
+        ensures steps { (taken : ℕ) × (steps.new ≡ steps.old + taken) × IsShort edges.now.rows order.now from.0 last.0 self.new taken }
+    {
+        self.find(from);
+        let mut next = 0;
+        while let Some(channel) = self.found_at(next) {
+            if self.look_along(edges.successors(channel), order, last, steps) {
+                return true;
+            }
+            next += 1;
+        }
+        false
+    }
+
+    /// The channel that was found at a place.
+    fn found_at(&self, place: usize) -> Option<ChannelId>
+        ensures channel { result ≡ slice_get self.now.found place }
+        ensures short { length self.now.found < 2 ^ 64 }
+    {
+        self.found.get(place).copied()
+    }
+
+    /// Looks at the edges that lead to some channels: finds those below the last one, up to the last one itself.
+    /// Whether that one is among them.
+    fn look_along<L: Ledger>(
+        &mut self,
+        successors: Successors,
+        order: &Order,
+        last: ChannelId,
+        steps: &mut Steps<L>,
+    ) -> bool
+        requires kept { IsSearch self.old }
+        requires each { length self.old.marks ≡ length order.now }
+        requires known { All (λ channel. channel.0 < length order.now) successors }
+        requires last { last.0 < length order.now }
+        ensures meets { result ≡ true → Contains successors.entry last }
+        ensures passes { result ≡ false → AreFound self.new successors.entry order.now last.0 (slice_index order.now last.0) }
+        ensures more { FindsMore self.old self.new successors.entry order.now (slice_index order.now last.0) }
+        ensures kept { IsSearch self.new }
+        ensures counted { steps.old ≤ steps.new }
+        ensures few { steps.new ≤ steps.old + length successors.entry }
+    {
+        let bound = order.number(last);
+        for successor in successors {
+            steps.tick();
+            if successor == last {
+                return true;
+            }
+            if order.number(successor) < bound {
+                self.find(successor);
+            }
+        }
+        false
     }
 
     /// Finds a channel.

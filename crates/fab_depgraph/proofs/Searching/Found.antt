@@ -1,5 +1,5 @@
 -- The channels that a search has found.
-use Rattle.std.proofs.Common.{◌≡◌, ◌≢◌, ◌⊎◌, ℕ, zero, suc, ◌+◌, ◌-◌, ◌<◌, ◌≤◌, Bool, true, false, List, [], ◌∷◌, ◌++◌, length, set, map, replicate, All, AllPairs, Contains, slice_get, slice_index_or, Some, refl, sym, ◌∙◌, ap, subst, inl, inr, arith, length-append, length-set, get_or-set_same, get_or-set_other}
+use Rattle.std.proofs.Common.{◌≡◌, ◌≢◌, ℕ, ◌+◌, ◌-◌, ◌<◌, ◌≤◌, Bool, true, false, List, [], ◌∷◌, ◌++◌, length, set, map, replicate, Contains, slice_get, slice_index_or, Some, refl, sym, ◌∙◌, ap, subst, inl, inr, arith, length-append, length-set, get_or-set_same, get_or-set_other}
 use Rattle.std.proofs.lemmas.Bool.{cases_lt, cases_eq}
 use Rattle.std.proofs.lemmas.List.{length-map, get_or_append_left, get_or-append_right, get_or_default, get_or_past, get_or-map, get_or-replicate, length-replicate, same_lists}
 use Rattle.std.proofs.lemmas.List.Elements.{Contains-append_left, Contains-append_right}
@@ -9,7 +9,7 @@ use Rattle.std.proofs.lemmas.Option.{get_or_from_slice_get, slice_get_within}
 use Rattle.fab_graph.proofs.Members.{first}
 use Rattle.fab_graph.proofs.Repeats.{HasRepeat, pigeonhole}
 use Rattle.fab_depgraph.specs.Order.{is_reached}
-use Rattle.fab_depgraph.specs.Search.{Search, IsSearch, no_search, with_found}
+use Rattle.fab_depgraph.specs.Search.{Search, IsSearch}
 use Rattle.fab_depgraph.proofs.Ordering.Lists.{pairs_append}
 
 pub reached_within : (marks : List Bool) (c : ℕ) → is_reached marks c ≡ true → c < length marks
@@ -45,12 +45,12 @@ module _ (s : Search) (search : IsSearch s) (channel : ChannelId) (new : is_reac
           rw at (get_or-set_same s.marks channel.0 true false within)
     ];
     differ = pairs_append (λ c d. c.0 ≢ d.0) s.found (channel ∷ []) search.differ (λ i j d i_j j_in. absurd (omega arith)) (λ x y x_in y_in same.
-      let only : y_in.0 ≡ 0 = omega (arith, y_in.1) in
-      let at : slice_index_or (channel ∷ []) 0 y ≡ y = ap (λ k. slice_index_or (channel ∷ []) k y) (sym only) ∙ y_in.2 in
-      let one : channel.0 ≡ y.0 = ap (λ (c : ChannelId). c.0) at in
-      let known : is_reached s.marks x.0 ≡ true = subst (λ (c : ChannelId). is_reached s.marks c.0 ≡ true) x_in.2 (search.known x_in.0 x x_in.1) in
-      let lacks : is_reached s.marks x.0 ≡ false = ap (is_reached s.marks) (same ∙ sym one) ∙ new in
-      absurd (cc));
+        let only : y_in.0 ≡ 0 = omega (arith, y_in.1) in
+        let at : slice_index_or (channel ∷ []) 0 y ≡ y = ap (λ k. slice_index_or (channel ∷ []) k y) (sym only) ∙ y_in.2 in
+        let one : channel.0 ≡ y.0 = ap (λ (c : ChannelId). c.0) at in
+        let known : is_reached s.marks x.0 ≡ true = subst (λ (c : ChannelId). is_reached s.marks c.0 ≡ true) x_in.2 (search.known x_in.0 x x_in.1) in
+        let lacks : is_reached s.marks x.0 ≡ false = ap (is_reached s.marks) (same ∙ sym one) ∙ new in
+        absurd (cc));
   }
 
 abbrev number_of : ChannelId → ℕ
