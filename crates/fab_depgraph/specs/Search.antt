@@ -56,7 +56,8 @@ pub record IsClosed (rows : List Row) (numbers : List ℕ) (from last : ℕ) (s 
   pub goes_on : (a b : ℕ) → is_reached s.marks a ≡ true → Precedes rows a b → slice_index numbers b < slice_index numbers last → is_reached s.marks b ≡ true
   pub misses : (a b : ℕ) → is_reached s.marks a ≡ true → Precedes rows a b → b ≢ last
 
--- the found channels are in the range, and a step at most was taken for each edge that leaves one of them
+-- the found channels are in the range, each found once, and a step at most was taken for each edge that leaves one of them
 pub record IsShort (rows : List Row) (numbers : List ℕ) (from last : ℕ) (s : Search) (steps : ℕ) : Type 0 where
   pub between : All (λ channel. (channel.0 < length numbers) × (slice_index numbers from ≤ slice_index numbers channel.0) × (slice_index numbers channel.0 < slice_index numbers last)) s.found
+  pub differ : AllPairs (λ c d. c.0 ≢ d.0) s.found
   pub few : steps ≤ edges_from rows s.found

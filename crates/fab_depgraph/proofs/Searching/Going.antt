@@ -119,6 +119,7 @@ module _ (rows : List Row) (numbers : List ℕ) (from last : ℕ) where
       pub short_now : (more : ℕ) → more ≤ length row → IsShort rows numbers from last t (taken + more)
       short_now more short = record {
         between = between_now;
+        differ = later.differ;
         few = omega (arith, few_now more short, sum_by-take-le (λ (c : ChannelId). length (row_at rows c.0)) t.found (next + 1));
       }
 
@@ -162,5 +163,6 @@ module _ (rows : List Row) (numbers : List ℕ) (from last : ℕ) where
     pub going_short : IsShort rows numbers from last s taken
     going_short = record {
       between = going.between;
+      differ = going.kept.differ;
       few = omega (arith, going.few, sum_by-take-le (λ (c : ChannelId). length (row_at rows c.0)) s.found next);
     }
