@@ -2,3 +2,4 @@
 pub mod OneRow
 pub mod Added
 pub mod Bound
+pub mod Kept

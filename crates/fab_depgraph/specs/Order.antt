@@ -1,11 +1,16 @@
 -- Channels in an order: each has a number, and each number has its channel.
-use Rattle.std.specs.Prelude.{◌≡◌, ◌⊎◌, ℕ, ◌+◌, ◌<◌, ◌≤◌, Bool, true, false, if◌then◌else◌, List, length, slice_index, slice_index_or}
+use Rattle.std.specs.Prelude.{◌≡◌, ◌⊎◌, ℕ, ◌+◌, ◌<◌, ◌≤◌, Bool, true, false, if◌then◌else◌, List, length, slice_index, slice_index_or, All}
 
 -- the number of each channel, and the channel of each number
 pub record IsOrder (numbers channels : List ℕ) : Type 0 where
   pub each : length channels ≡ length numbers
   pub there : (n : ℕ) → n < length numbers → (slice_index channels n < length numbers) × (slice_index numbers (slice_index channels n) ≡ n)
   pub back : (c : ℕ) → c < length numbers → (slice_index numbers c < length numbers) × (slice_index channels (slice_index numbers c) ≡ c)
+
+-- the numbers from 0 on, in some order
+pub record AreNumbers (numbers : List ℕ) : Type 0 where
+  pub below : All (λ n. n < length numbers) numbers
+  pub differ : (c d : ℕ) → c < length numbers → d < length numbers → slice_index numbers c ≡ slice_index numbers d → c ≡ d
 
 -- whether a channel was reached
 abbrev pub is_reached : List Bool → ℕ → Bool

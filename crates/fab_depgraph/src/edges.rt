@@ -67,10 +67,12 @@ impl Edges {
 
     /// How often an edge was added.
     pub(crate) fn count(&self, first: ChannelId, second: ChannelId) -> u32
-        requires { first.0 < length self.now.rows }
         ensures { result ≡ times_in (row_at self.now.rows first.0) second.0 }
     {
-        match find(&self.edges, self.newest[first.0 as usize], second) {
+        let Some(newest) = self.newest.get(first.0 as usize) else {
+            return 0;
+        };
+        match find(&self.edges, *newest, second) {
             Some(key) => self.edges[key].count,
             None => 0,
         }

@@ -1,11 +1,13 @@
 //! An arena of channel dependencies that never closes a walk, and takes additions back.
 #![tactic(auto)]
 
+mod arena;
 mod dep;
 mod edges;
 mod order;
 mod search;
 mod steps;
 
+pub use arena::DepGraph;
 pub use dep::{Added, Dep, Mark};
 pub use steps::Steps;

@@ -5,7 +5,7 @@
 //! those that it reached. This takes time linear in the range and no memory. 12 bytes a channel.
 ghost use Rattle.std.specs.Prelude.{◌≡◌, ◌≢◌, ℕ, ◌+◌, ◌^◌, ◌<◌, ◌≤◌, ◌++◌, length, filter, IfOk, All, AllPairs, slice_index, vec_capacity};
 ghost use Rattle.std.specs.List.{range_with_len};
-ghost use Rattle.fab_depgraph.specs.Order.{IsOrder, IsMovedBehind, AreNumberedFrom, is_reached, is_unreached};
+ghost use Rattle.fab_depgraph.specs.Order.{IsOrder, AreNumbers, IsMovedBehind, AreNumberedFrom, is_reached, is_unreached};
 
 use fab_model::ChannelId;
 use std::alloc::{AllocError, Global};
@@ -35,7 +35,8 @@ impl Model for Order {
 impl Order {
     /// The channels by their own numbers.
     pub(crate) fn new(alloc: Global, channels: u32) -> Result<Order, AllocError>
-        ensures { IfOk result (λ order. order ≡ range_with_len 0 channels) }
+        ensures own { IfOk result (λ order. order ≡ range_with_len 0 channels) }
+        ensures numbers { IfOk result AreNumbers }
     {
         Ok(Order {
             numbers: all_below(alloc, channels)?,
@@ -57,7 +58,8 @@ impl Order {
         requires low { low ≤ high }
         requires high { high < length self.old }
         requires reached { length reached.now ≡ length self.old }
-        ensures { IsMovedBehind self.old self.new low high reached.now }
+        ensures moved { IsMovedBehind self.old self.new low high reached.now }
+        ensures numbers { AreNumbers self.new }
     {
         let range = &mut self.channels[low as usize..high as usize + 1];
         unreached_first(range, reached, &mut self.moved);

@@ -42,11 +42,11 @@ counted_step : (rows : List Row) (d : Dep) → ((a : ℕ) → IsCounted (row_at 
 counted_step rows d counted a = elim (eqb_tells a d.first.0) [
   | inr h ↦ subst IsCounted (sym (other rows d.first.0 d.second.0 a h.1)) (counted a)
   | inl h ↦ subst (λ a. IsCounted (row_at (added rows d) a)) (sym h.1) (elim (cases_lt d.first.0 (length rows)) [
-      | inl within ↦ subst IsCounted (sym (here rows d.first.0 d.second.0 within)) (raised_counted (row_at rows d.first.0) d.second.0 (counted d.first.0))
-      | inr past ↦
-          let long : length (added rows d) ≤ d.first.0 = omega (arith, past, length-set rows d.first.0 (raised (row_at rows d.first.0) d.second.0)) in
-          subst IsCounted (sym (get_or_past (added rows d) d.first.0 [] long)) tt
-    ])
+    | inl within ↦ subst IsCounted (sym (here rows d.first.0 d.second.0 within)) (raised_counted (row_at rows d.first.0) d.second.0 (counted d.first.0))
+    | inr past ↦
+        let long : length (added rows d) ≤ d.first.0 = omega (arith, past, length-set rows d.first.0 (raised (row_at rows d.first.0) d.second.0)) in
+        subst IsCounted (sym (get_or_past (added rows d) d.first.0 [] long)) tt
+  ])
 ]
 
 counted_from : (ds : List Dep) (rows : List Row) → ((a : ℕ) → IsCounted (row_at rows a)) → (a : ℕ) → IsCounted (row_at (fold added rows ds) a)
@@ -134,9 +134,9 @@ pub same_is : (e d : Dep) → same_dep e d ≡ true → e ≡ d
 same_is e d same = elim (eqb_tells e.first.0 d.first.0) [
   | inr h ↦ (let t : false ≡ true = rw h.0 at same in absurd (cc))
   | inl h ↦ elim (eqb_tells e.second.0 d.second.0) [
-      | inr k ↦ (let t : false ≡ true = rw (h.0, k.0) at same in absurd (cc))
-      | inl k ↦ (let a = h.1 in let b = k.1 in let x : dep_of e.first.0 e.second.0 ≡ dep_of d.first.0 d.second.0 = cc in x)
-    ]
+    | inr k ↦ (let t : false ≡ true = rw (h.0, k.0) at same in absurd (cc))
+    | inl k ↦ (let a = h.1 in let b = k.1 in let x : dep_of e.first.0 e.second.0 ≡ dep_of d.first.0 d.second.0 = cc in x)
+  ]
 ]
 
 pub times_listed_some : (ds : List Dep) (d : Dep) → 0 < times_listed ds d → Contains ds d

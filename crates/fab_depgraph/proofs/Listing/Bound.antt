@@ -97,9 +97,9 @@ when_new : (c : ℕ) (row : Row) (d : Dep) → is_new c row d ≡ true → (d.fi
 when_new c row d new = elim (eqb_tells d.first.0 c) [
   | inr h ↦ (let t : false ≡ true = rw h.0 at new in absurd (cc))
   | inl h ↦ elim (either (leads_to row d.second.0)) [
-      | inl known ↦ (let t : false ≡ true = rw (h.0, known) at new in absurd (cc))
-      | inr unknown ↦ (h.1, unknown)
-    ]
+    | inl known ↦ (let t : false ≡ true = rw (h.0, known) at new in absurd (cc))
+    | inr unknown ↦ (h.1, unknown)
+  ]
 ]
 
 -- what is new to a longer row is new to the row
@@ -191,8 +191,13 @@ counts_apart cs apart p passes (d ∷ ds) =
           let none : sum_by (λ c. one_if (d.first.0 == c.0)) cs ≡ 0 = no_sum (λ (c : ChannelId). one_if (d.first.0 == c.0)) cs (λ c in_cs. ap one_if (ne_eqb d.first.0 c.0 (λ same. (let t = passes c d in_cs same in absurd (cc))))) in
           omega (arith, none)
     ] in
-    omega (arith, here, counts_apart cs apart p passes ds, sum_by-cons (λ y. cond (p y) 1 0) d ds,
-      sum_split (λ (c : ChannelId). count_by (λ d. d.first.0 == c.0) (d ∷ ds)) (λ c. one_if (d.first.0 == c.0)) (λ c. count_by (λ d. d.first.0 == c.0) ds) (λ c. sum_by-cons (λ (e : Dep). cond (e.first.0 == c.0) 1 0) d ds) cs)
+    omega (
+      arith,
+      here,
+      counts_apart cs apart p passes ds,
+      sum_by-cons (λ y. cond (p y) 1 0) d ds,
+      sum_split (λ (c : ChannelId). count_by (λ d. d.first.0 == c.0) (d ∷ ds)) (λ c. one_if (d.first.0 == c.0)) (λ c. count_by (λ d. d.first.0 == c.0) ds) (λ c. sum_by-cons (λ (e : Dep). cond (e.first.0 == c.0) 1 0) d ds) cs,
+    )
 
 -- a short search takes at most as many steps as there are different dependencies that begin in its range
 pub steps_bound : (g : Dependencies) (new : Dep) (s : Search) (taken : ℕ) → IsShort (rows_of g.channels g.listed) g.numbers new.second.0 new.first.0 s taken → taken ≤ present_between g new
@@ -201,8 +206,8 @@ steps_bound g new s taken short =
     let once = each_once g.listed in
     let each : edges_from rows s.found ≤ sum_by (λ c. count_by (λ d. d.first.0 == c.0) once) s.found = sum_by-le-sum_by (λ (c : ChannelId). length (row_at rows c.0)) (λ c. count_by (λ d. d.first.0 == c.0) once) s.found (λ c. row_short g.channels g.listed c.0) in
     let all = counts_apart s.found short.differ (lies_between g new) (λ c d has same.
-      let between = known_of (λ channel. (channel.0 < length g.numbers) × (slice_index g.numbers new.second.0 ≤ slice_index g.numbers channel.0) × (slice_index g.numbers channel.0 < slice_index g.numbers new.first.0)) s.found c short.between has in
-      let low : nat_le (slice_index g.numbers new.second.0) (slice_index g.numbers d.first.0) ≡ true = le-leb (slice_index g.numbers new.second.0) (slice_index g.numbers d.first.0) (omega (arith, between.1, ap (slice_index g.numbers) same)) in
-      let high : nat_le (slice_index g.numbers d.first.0) (slice_index g.numbers new.first.0) ≡ true = le-leb (slice_index g.numbers d.first.0) (slice_index g.numbers new.first.0) (omega (arith, between.2, ap (slice_index g.numbers) same)) in
-      rw (low, high) refl) once in
+    let between = known_of (λ channel. (channel.0 < length g.numbers) × (slice_index g.numbers new.second.0 ≤ slice_index g.numbers channel.0) × (slice_index g.numbers channel.0 < slice_index g.numbers new.first.0)) s.found c short.between has in
+    let low : nat_le (slice_index g.numbers new.second.0) (slice_index g.numbers d.first.0) ≡ true = le-leb (slice_index g.numbers new.second.0) (slice_index g.numbers d.first.0) (omega (arith, between.1, ap (slice_index g.numbers) same)) in
+    let high : nat_le (slice_index g.numbers d.first.0) (slice_index g.numbers new.first.0) ≡ true = le-leb (slice_index g.numbers d.first.0) (slice_index g.numbers new.first.0) (omega (arith, between.2, ap (slice_index g.numbers) same)) in
+    rw (low, high) refl) once in
     omega (arith, short.few, each, all, length-filter (lies_between g new) once)

@@ -89,13 +89,13 @@ raised_new row b unknown = rw unknown refl
 pub raised_times : (row : Row) (b c : ℕ) → times_in (raised row b) c ≡ times_in row c + one_if (b == c)
 raised_times row b c = elim (either (leads_to row b)) [
   | inl known ↦ ap (λ (r : Row). times_in r c) (raised_known row b known) ∙ elim (eqb_tells b c) [
-      | inl h ↦ subst (λ c. times_in (with_count (λ n. n + 1) row b) c ≡ times_in row c + one_if (b == c)) h.1 (rw (eq-eqb b b refl) (with_count_here (λ n. n + 1) row b known))
-      | inr h ↦ rw h.0 (with_count_other (λ n. n + 1) row b c h.1 ∙ omega arith)
-    ]
+    | inl h ↦ subst (λ c. times_in (with_count (λ n. n + 1) row b) c ≡ times_in row c + one_if (b == c)) h.1 (rw (eq-eqb b b refl) (with_count_here (λ n. n + 1) row b known))
+    | inr h ↦ rw h.0 (with_count_other (λ n. n + 1) row b c h.1 ∙ omega arith)
+  ]
   | inr unknown ↦ ap (λ (r : Row). times_in r c) (raised_new row b unknown) ∙ elim (eqb_tells b c) [
-      | inl h ↦ (let none : times_in row c ≡ 0 = subst (λ c. times_in row c ≡ 0) h.1 (times_unknown row b unknown) in rw h.0 (omega (arith, none)))
-      | inr h ↦ rw h.0 (omega arith)
-    ]
+    | inl h ↦ (let none : times_in row c ≡ 0 = subst (λ c. times_in row c ≡ 0) h.1 (times_unknown row b unknown) in rw h.0 (omega (arith, none)))
+    | inr h ↦ rw h.0 (omega arith)
+  ]
 ]
 
 pub raised_counted : (row : Row) (b : ℕ) → IsCounted row → IsCounted (raised row b)
@@ -113,9 +113,9 @@ raised_length row b = elim (either (leads_to row b)) [
 pub raised_leads : (row : Row) (b c : ℕ) → leads_to (raised row b) c ≡ (if b == c then true else leads_to row c)
 raised_leads row b c = elim (either (leads_to row b)) [
   | inl known ↦ ap (λ (r : Row). leads_to r c) (raised_known row b known) ∙ (with_count_leads (λ n. n + 1) row b c ∙ elim (eqb_tells b c) [
-      | inl h ↦ rw h.0 (subst (λ c. leads_to row c ≡ true) h.1 known)
-      | inr h ↦ rw h.0 refl
-    ])
+    | inl h ↦ rw h.0 (subst (λ c. leads_to row c ≡ true) h.1 known)
+    | inr h ↦ rw h.0 refl
+  ])
   | inr unknown ↦ ap (λ (r : Row). leads_to r c) (raised_new row b unknown)
 ]
 

@@ -1,11 +1,11 @@
 -- The steps of the loops that put channels in another order.
 use Rattle.std.proofs.Common.{◌≡◌, ◌≢◌, ℕ, ◌+◌, ◌<◌, Bool, List, length, take, set, All, AllPairs, slice_index, slice_index_or, refl, sym, ◌∙◌, ap, inl, inr, arith, length-take, length-set, get_or-set_same, get_or-set_other}
 use Rattle.std.proofs.lemmas.Bool.{cases_lt}
-use Rattle.std.proofs.lemmas.List.{get_or-take, get_or-drop}
+use Rattle.std.proofs.lemmas.List.{get_or-take, get_or-drop, get_or_default}
 use Rattle.std.proofs.lemmas.List.Filters.{FiltersInPlace}
 use Rattle.std.proofs.lemmas.List.FromFn.{get_or-range_with_len, length-range_with_len}
 use Rattle.std.specs.List.{range_with_len}
-use Rattle.fab_depgraph.specs.Order.{IsOrder, AreNumberedFrom}
+use Rattle.fab_depgraph.specs.Order.{IsOrder, AreNumbers, AreNumberedFrom}
 
 pub numbered_more : (first : ℕ) (channels old now : List ℕ) (i : ℕ) → i < length channels → All (λ c. c < length old) channels → AllPairs (λ c d. c ≢ d) channels → AreNumberedFrom first (take i channels) old now → AreNumberedFrom first (take (i + 1) channels) old (set now (slice_index channels i) (first + i))
 numbered_more first channels old now i i_in known differ so_far =
@@ -42,3 +42,9 @@ all_in_order n =
     let at : slice_index (range_with_len 0 n) k ≡ k = get_or-range_with_len 0 n k 0 (omega arith) ∙ omega arith in
     (omega arith, ap (slice_index (range_with_len 0 n)) at ∙ at) in
     record { each = refl; there = each; back = each }
+
+pub order_numbers : (numbers channels : List ℕ) → IsOrder numbers channels → AreNumbers numbers
+order_numbers numbers channels order = record {
+  below = λ k d k_in. (let at = get_or_default numbers k d 0 k_in in omega (arith, at, (order.back k k_in).0));
+  differ = λ c d c_in d_in same. sym (order.back c c_in).1 ∙ (ap (slice_index channels) same ∙ (order.back d d_in).1);
+}

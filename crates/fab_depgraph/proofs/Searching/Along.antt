@@ -17,6 +17,7 @@ still_found s channel c was = go (is_reached s.marks channel.0)
       | inl same ↦ ap (is_reached (set s.marks channel.0 true)) same ∙ get_or-set_same s.marks channel.0 true false (subst (λ k. k < length s.marks) same (reached_within s.marks c was))
       | inr differ ↦ get_or-set_other s.marks channel.0 c true false differ ∙ was
     ]
+
     go : (b : Bool) → is_reached (if b then s else record { marks = set s.marks channel.0 true; found = s.found ++ channel ∷ [] }).marks c ≡ true
     go true = was
     go false = after

@@ -98,9 +98,9 @@ module _ (rows : List Row) (numbers : List ℕ) (from last : ℕ) where
 
       between_now : All LiesBetween t.found
       between_now = subst (All LiesBetween) (sym finds.found) (All-append LiesBetween s.found finds.added going.between (λ k d k_in.
-        let was = finds.among k d k_in in
-        let c = (slice_index_or finds.added k d).0 in
-        (rising.within channel.0 c was.0, omega (arith, lies.1, rising.rise channel.0 c was.0), was.1)))
+          let was = finds.among k d k_in in
+          let c = (slice_index_or finds.added k d).0 in
+          (rising.within channel.0 c was.0, omega (arith, lies.1, rising.rise channel.0 c was.0), was.1)))
 
       walks_now : All IsWalkedTo t.found
       walks_now = subst (All IsWalkedTo) (sym finds.found) (All-append IsWalkedTo s.found finds.added going.walks (λ k d k_in. step_to (slice_index_or finds.added k d) (finds.among k d k_in).0))
@@ -150,9 +150,9 @@ module _ (rows : List Row) (numbers : List ℕ) (from last : ℕ) where
     pub going_closed : IsClosed rows numbers from last s
     going_closed =
         let passes : (a b : ℕ) → is_reached s.marks a ≡ true → Precedes rows a b → (b ≢ last) × (slice_index numbers b < slice_index numbers last → is_reached s.marks b ≡ true) = λ a b marked edge.
-            let here = going.kept.marked a marked in
-            let found : AreFound s (channels_of (row_at rows a)) numbers last (slice_index numbers last) = subst (λ (c : ChannelId). AreFound s (channels_of (row_at rows c.0)) numbers last (slice_index numbers last)) here.2 (going.done here.0 (channel_id a) (omega (arith, here.1, over))) in
-            known_of (λ channel. (channel.0 ≢ last) × (slice_index numbers channel.0 < slice_index numbers last → is_reached s.marks channel.0 ≡ true)) (channels_of (row_at rows a)) (channel_id b) found edge in
+        let here = going.kept.marked a marked in
+        let found : AreFound s (channels_of (row_at rows a)) numbers last (slice_index numbers last) = subst (λ (c : ChannelId). AreFound s (channels_of (row_at rows c.0)) numbers last (slice_index numbers last)) here.2 (going.done here.0 (channel_id a) (omega (arith, here.1, over))) in
+        known_of (λ channel. (channel.0 ≢ last) × (slice_index numbers channel.0 < slice_index numbers last → is_reached s.marks channel.0 ≡ true)) (channels_of (row_at rows a)) (channel_id b) found edge in
         record {
           begins = going.begins;
           between = λ c marked. (let lies = known_of LiesBetween s.found (channel_id c) going.between (going.kept.marked c marked) in (lies.1, lies.2));

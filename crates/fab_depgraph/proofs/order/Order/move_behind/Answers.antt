@@ -1,6 +1,7 @@
 use Rattle.std.proofs.Common.{◌≡◌, ◌<◌, ◌+◌, ◌-◌, ℕ, List, ◌++◌, length, take, drop, filter, All, AllPairs, ◌≢◌, sym, ◌∙◌, ap, subst, arith}
 use Rattle.std.proofs.lemmas.List.{with_items_is}
 use Rattle.fab_depgraph.specs.Order.{IsOrder, AreNumberedFrom, IsMovedBehind, is_reached, is_unreached}
+use Rattle.fab_depgraph.proofs.Ordering.Loops.{order_numbers}
 use Rattle.fab_depgraph.proofs.Ordering.Lists.{drop_twice}
 use Rattle.fab_depgraph.proofs.Ordering.Moved.{parted, parted_known, parted_differ, parted_length, arranged, arranged_length, moved_order, is_moved}
 use Rattle.fab_depgraph.proofs.order.Order.move_behind.Goals as goal
@@ -67,8 +68,8 @@ invariant_of-self c =
       omega (arith, numbered.each, c.self.invariant.1, c.unreached_first.ensures.capacity),
     )
 
-pub returns : goal.returns
-returns c =
+pub returns-clause-moved : goal.returns-clause-moved
+returns-clause-moved c =
     let numbers = c.self.inside.numbers.items in
     let channels = c.self.inside.channels.items in
     let order = c.self.invariant.0 in
@@ -82,3 +83,19 @@ returns c =
     subst (λ (old : List ℕ). AreNumberedFrom low (parted numbers channels order reached low high c.requires.low inside) old new) c.deref_mut-2.ensures.value (subst (λ (xs : List ℕ). AreNumberedFrom low xs c.deref_mut-2.result.now new) mid c.set_numbers.ensures) in
     let long : length new ≡ c.self.inside.numbers.len = omega (arith, numbered.each, c.self.inside.numbers.ok.0) in
     rw (with_items_is c.self.inside.numbers new long) (subst (λ (old : List ℕ). IsMovedBehind old new low high reached) c.self.view_is (is_moved numbers channels order reached low high c.requires.low inside new numbered))
+
+pub returns-clause-numbers : goal.returns-clause-numbers
+returns-clause-numbers c =
+    let numbers = c.self.inside.numbers.items in
+    let channels = c.self.inside.channels.items in
+    let order = c.self.invariant.0 in
+    let reached = c.args.reached.now in
+    let low = c.args.low in
+    let high = c.args.high in
+    let inside : high < length numbers = omega (arith, c.requires.high, ap (length {A = ℕ}) c.self.view_is) in
+    let mid : c.unreached_first.new.channels ≡ parted numbers channels order reached low high c.requires.low inside = c.unreached_first.ensures.parted ∙ ap (λ (xs : List ℕ). filter (is_unreached reached) (take (high + 1 - low) (drop low xs)) ++ filter (is_reached reached) (take (high + 1 - low) (drop low xs))) c.deref_mut.ensures.value in
+    let new = c.set_numbers.new.numbers in
+    let numbered : AreNumberedFrom low (parted numbers channels order reached low high c.requires.low inside) numbers new =
+    subst (λ (old : List ℕ). AreNumberedFrom low (parted numbers channels order reached low high c.requires.low inside) old new) c.deref_mut-2.ensures.value (subst (λ (xs : List ℕ). AreNumberedFrom low xs c.deref_mut-2.result.now new) mid c.set_numbers.ensures) in
+    let long : length new ≡ c.self.inside.numbers.len = omega (arith, numbered.each, c.self.inside.numbers.ok.0) in
+    rw (with_items_is c.self.inside.numbers new long) (order_numbers new (arranged numbers channels order reached low high c.requires.low inside) (moved_order numbers channels order reached low high c.requires.low inside new numbered))
