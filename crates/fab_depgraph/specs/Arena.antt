@@ -3,7 +3,7 @@ use Rattle.std.specs.Prelude.{◌≡◌, ℕ, ◌+◌, ◌≤◌, List, [], leng
 use Rattle.std.specs.List.{fold}
 use Rattle.fab_depgraph.specs.declared.dep.Dep.{Dep}
 use Rattle.fab_depgraph.specs.Edges.{Row, EdgeRows, with_raised}
-use Rattle.fab_depgraph.specs.Search.{Search, no_search}
+use Rattle.fab_depgraph.specs.Search.{Search}
 use Rattle.fab_depgraph.specs.Listed.{AreDependencies}
 
 -- the rows after the dependencies of a list were added one after the other
@@ -14,6 +14,6 @@ rows_of channels listed = fold (λ rows d. with_raised rows d.first.0 d.second.0
 pub record IsArena (edges : EdgeRows) (numbers : List ℕ) (search : Search) (listed : List Dep) (spare capacity : ℕ) : Type 0 where
   pub dependencies : AreDependencies (record { channels = length numbers; listed = listed; spare = spare; numbers = numbers })
   pub rows : edges.rows ≡ rows_of (length numbers) listed
-  pub idle : search ≡ no_search (length numbers)
+  pub marks : length search.marks ≡ length numbers
   pub edge_room : length listed + spare ≤ edges.capacity
   pub trail_room : length listed + spare ≤ capacity

@@ -110,4 +110,94 @@ impl DepGraph {
     {
         self.order.number(channel)
     }
+
+    /// Adds a dependency, unless a walk would be closed. It takes no memory.
+    pub fn add<L: Ledger>(&mut self, dep: Dep, steps: &mut Steps<L>) -> Added
+        requires within { IsWithin self.old.channels dep }
+        requires spare { 0 < self.old.spare }
+        ensures closes { result ≡ Added.WouldClose → HasClosedWalk (IsListed (self.old.listed ++ dep ∷ [])) }
+        ensures stays { result ≡ Added.WouldClose → self.new ≡ self.old }
+        ensures acyclic { result ≡ Added.Yes → IsAcyclic (IsListed (self.old.listed ++ dep ∷ [])) }
+        ensures added { result ≡ Added.Yes → self.new.listed ≡ self.old.listed ++ dep ∷ [] }
+        ensures spare { result ≡ Added.Yes → self.old.spare ≡ self.new.spare + 1 }
+        ensures channels { self.new.channels ≡ self.old.channels }
+        // A step is an edge looked at.
+        ensures counted { steps.old ≤ steps.new }
+        ensures no_step { AsksNothing self.old dep → steps.new ≡ steps.old }
+        ensures few_steps { steps.new ≤ steps.old + present_between self.old dep }
+    {
+        if !self.make_rise(dep, steps) {
+            return Added::WouldClose;
+        }
+        self.append(dep);
+        Added::Yes
+    }
+
+    /// Takes back all additions since the mark, the last one first. It takes no memory.
+    pub fn undo_to<L: Ledger>(&mut self, mark: Mark, steps: &mut Steps<L>)
+        requires { mark.0 ≤ length self.old.listed }
+        ensures listed { self.new.listed ≡ take mark.0 self.old.listed }
+        ensures spare { self.new.spare ≡ self.old.spare + (length self.old.listed - mark.0) }
+        ensures channels { self.new.channels ≡ self.old.channels }
+        ensures numbers { self.new.numbers ≡ self.old.numbers }
+        ensures counted { steps.old ≤ steps.new }
+        ensures few_steps { steps.new ≤ steps.old + (length self.old.listed - mark.0) }
+    {
+        while self.mark().0 > mark.0 {
+            steps.tick();
+            self.undo();
+        }
+    }
+
+    /// Makes the numbers rise along a dependency, unless a walk leads from its second channel to its first.
+    fn make_rise<L: Ledger>(&mut self, dep: Dep, steps: &mut Steps<L>) -> bool
+        requires within { IsWithin self.old.channels dep }
+        ensures closes { result ≡ false → HasClosedWalk (IsListed (self.old.listed ++ dep ∷ [])) }
+        ensures stays { result ≡ false → self.new ≡ self.old }
+        ensures rises { result ≡ true → number self.new dep.first.0 < number self.new dep.second.0 }
+        ensures rest { self.new ≡ record self.old { numbers = self.new.numbers } }
+        ensures counted { steps.old ≤ steps.new }
+        ensures no_step { AsksNothing self.old dep → steps.new ≡ steps.old }
+        ensures few_steps { steps.new ≤ steps.old + present_between self.old dep }
+    {
+        let low = self.order.number(dep.second);
+        let high = self.order.number(dep.first);
+        if high < low {
+            return true;
+        }
+        if dep.first == dep.second {
+            return false;
+        }
+        let first_met = self
+            .search
+            .meets(&self.edges, &self.order, dep.second, dep.first, steps);
+        if first_met {
+            return false;
+        }
+        self.order.move_behind(low, high, self.search.marks());
+        true
+    }
+
+    /// Appends a dependency along which the numbers rise.
+    fn append(&mut self, dep: Dep)
+        requires within { IsWithin self.old.channels dep }
+        requires spare { 0 < self.old.spare }
+        requires rises { number self.old dep.first.0 < number self.old dep.second.0 }
+        ensures added { self.new ≡ record self.old { listed = self.old.listed ++ dep ∷ []; spare = self.old.spare - 1 } }
+        ensures acyclic { IsAcyclic (IsListed self.new.listed) }
+    {
+        self.edges.raise(dep.first, dep.second);
+        self.trail.push_reserved(dep);
+        self.room -= 1;
+    }
+
+    /// Takes back the last addition.
+    fn undo(&mut self)
+        requires { 0 < length self.old.listed }
+        ensures { self.new ≡ record self.old { listed = take (length self.old.listed - 1) self.old.listed; spare = self.old.spare + 1 } }
+    {
+        let dep = self.trail.pop().unwrap();
+        self.edges.lower(dep.first, dep.second);
+        self.room += 1;
+    }
 }

@@ -59,7 +59,7 @@ impl Search {
     }
 
     /// Forgets what was found.
-    pub(crate) fn clear(&mut self)
+    fn clear(&mut self)
         ensures { self.new ≡ no_search (length self.old.marks) }
     {
         unmark(&self.found, &mut self.marks);
@@ -76,7 +76,7 @@ impl Search {
         last: ChannelId,
         steps: &mut Steps<L>,
     ) -> bool
-        requires clean { self.old ≡ no_search (length order.now) }
+        requires each { length self.old.marks ≡ length order.now }
         requires rising { AreRising edges.now.rows order.now }
         requires from { from.0 < length order.now }
         requires last { last.0 < length order.now }
@@ -86,6 +86,7 @@ impl Search {
         ensures each { length self.new.marks ≡ length order.now }
         ensures steps { (taken : ℕ) × (steps.new ≡ steps.old + taken) × IsShort edges.now.rows order.now from.0 last.0 self.new taken }
     {
+        self.clear();
         self.find(from);
         let mut next = 0;
         while let Some(channel) = self.found_at(next) {

@@ -1,18 +1,18 @@
 -- The rows after the dependencies of a list were added.
-use Rattle.std.proofs.Common.{◌≡◌, ◌≢◌, ◌⊎◌, ◌↔◌, ℕ, zero, suc, ◌+◌, ◌-◌, ◌<◌, ◌≤◌, ◌==◌, ◌&&◌, Bool, true, false, cond, if◌then◌else◌, List, [], ◌∷◌, ◌++◌, length, map, set, replicate, All, Contains, count_by, slice_index_or, slice_set, refl, sym, ◌∙◌, ap, subst, inl, inr, arith, length-set, get_or-set_same, get_or-set_other}
-use Rattle.std.specs.List.{sum_by, fold}
-use Rattle.std.proofs.lemmas.Bool.{eq-eqb, ne_eqb, cases_lt}
+use Rattle.std.proofs.Common.{◌≡◌, ◌≢◌, ℕ, zero, suc, ◌+◌, ◌<◌, ◌≤◌, Bool, true, false, cond, if◌then◌else◌, List, [], ◌∷◌, ◌++◌, length, set, replicate, Contains, refl, sym, ◌∙◌, ap, subst, inl, inr, arith, length-set, get_or-set_same, get_or-set_other}
+use Rattle.std.specs.List.{fold}
+use Rattle.std.proofs.lemmas.Bool.{eq-eqb, cases_lt}
 use Rattle.std.proofs.lemmas.Bool.Decides.{eqb_tells}
-use Rattle.std.proofs.lemmas.List.{get_or-replicate, get_or_past, length-replicate, set-get_or, set-set, set_past}
+use Rattle.std.proofs.lemmas.List.{get_or_past, length-replicate, set-get_or, set-set, set_past}
 use Rattle.std.proofs.lemmas.List.Sums.{sum_by-cons, sum_by-set, fold_push}
 use Rattle.fab_model.specs.Topology.{channel_id}
 use Rattle.fab_graph.proofs.Members.{first, later, first_or_later}
 use Rattle.fab_depgraph.specs.declared.dep.Dep.{Dep}
 use Rattle.fab_depgraph.specs.Edges.{Row, row_at, edge_count, channels_of, times_in, leads_to, raised, lowered, with_raised, with_lowered, CanBeLowered}
 use Rattle.fab_depgraph.specs.Search.{Precedes}
-use Rattle.fab_depgraph.specs.Listed.{dep_of, same_dep, times_listed, IsListed, IsWithin}
+use Rattle.fab_depgraph.specs.Listed.{dep_of, same_dep, times_listed, IsListed}
 use Rattle.fab_depgraph.specs.Arena.{rows_of}
-use Rattle.fab_depgraph.proofs.Listing.OneRow.{IsCounted, raised_times, raised_counted, raised_length, raised_leads, lowered_raised, raised_lowers, leads_contains, contains_leads}
+use Rattle.fab_depgraph.proofs.Listing.OneRow.{IsCounted, raised_times, raised_counted, raised_length, lowered_raised, raised_lowers, leads_contains, contains_leads}
 
 abbrev pub one_if : Bool → ℕ
 one_if b = cond b 1 0

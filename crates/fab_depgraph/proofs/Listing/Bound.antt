@@ -1,5 +1,5 @@
 -- How many edges leave some channels, as a count of dependencies that differ.
-use Rattle.std.proofs.Common.{◌≡◌, ◌≢◌, ◌⊎◌, ℕ, zero, suc, ◌+◌, ◌<◌, ◌≤◌, ◌==◌, ◌&&◌, ◌||◌, Bool, true, false, cond, if◌then◌else◌, nat_le, List, [], ◌∷◌, length, filter, replicate, AllPairs, Contains, count_by, slice_index, slice_index_or, refl, sym, ◌∙◌, ap, subst, inl, inr, le-leb, arith, length-set}
+use Rattle.std.proofs.Common.{◌≡◌, ◌≢◌, ◌⊎◌, ℕ, ◌+◌, ◌<◌, ◌≤◌, ◌==◌, ◌&&◌, ◌||◌, Bool, true, false, cond, if◌then◌else◌, nat_le, List, [], ◌∷◌, length, replicate, AllPairs, Contains, count_by, slice_index, refl, sym, ◌∙◌, ap, subst, inl, inr, le-leb, arith, length-set}
 use Rattle.std.specs.List.{sum_by, fold, list_any}
 use Rattle.std.proofs.lemmas.Bool.{eq-eqb, ne_eqb, cases_lt}
 use Rattle.std.proofs.lemmas.Bool.Decides.{eqb_tells}
@@ -9,9 +9,9 @@ use Rattle.fab_model.specs.declared.rows.ChannelId.{ChannelId}
 use Rattle.fab_graph.proofs.Members.{first, later, first_or_later}
 use Rattle.fab_graph.proofs.Orders.{pairs_head, pairs_tail}
 use Rattle.fab_depgraph.specs.declared.dep.Dep.{Dep}
-use Rattle.fab_depgraph.specs.Edges.{Row, row_at, leads_to, raised, with_raised}
+use Rattle.fab_depgraph.specs.Edges.{Row, row_at, leads_to, raised}
 use Rattle.fab_depgraph.specs.Search.{Search, edges_from, IsShort}
-use Rattle.fab_depgraph.specs.Listed.{Dependencies, dep_of, same_dep}
+use Rattle.fab_depgraph.specs.Listed.{Dependencies, same_dep}
 use Rattle.fab_depgraph.specs.Bound.{each_once, lies_between, present_between}
 use Rattle.fab_depgraph.specs.Arena.{rows_of}
 use Rattle.fab_depgraph.proofs.Searching.Going.{known_of}

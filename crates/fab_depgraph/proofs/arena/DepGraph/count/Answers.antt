@@ -1,5 +1,4 @@
-use Rattle.std.proofs.Common.{◌≡◌, List, length, ◌∙◌, ap, sym}
-use Rattle.fab_depgraph.specs.declared.dep.Dep.{Dep}
+use Rattle.std.proofs.Common.{List, length, ◌∙◌, ap}
 use Rattle.fab_depgraph.specs.Edges.{Row, row_at, times_in}
 use Rattle.fab_depgraph.specs.Listed.{Dependencies, times_listed}
 use Rattle.fab_depgraph.proofs.Listing.Kept.{times_all}

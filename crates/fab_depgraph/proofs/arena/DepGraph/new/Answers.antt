@@ -1,10 +1,10 @@
-use Rattle.std.proofs.Common.{◌≡◌, ◌≤◌, ◌+◌, ℕ, List, [], length, replicate, sym, ◌∙◌, ap, subst, arith}
-use Rattle.std.specs.List.{range_with_len}
+use Rattle.std.proofs.Common.{◌≡◌, ℕ, List, [], false, length, replicate, sym, ◌∙◌, ap, subst, arith}
+use Rattle.std.proofs.lemmas.List.{length-replicate}
 use Rattle.std.proofs.lemmas.List.FromFn.{length-range_with_len}
 use Rattle.fab_depgraph.specs.declared.dep.Dep.{Dep}
-use Rattle.fab_depgraph.specs.Search.{no_search}
-use Rattle.fab_depgraph.specs.Listed.{Dependencies, AreDependencies}
-use Rattle.fab_depgraph.specs.Arena.{IsArena, rows_of}
+use Rattle.fab_depgraph.specs.Search.{Search}
+use Rattle.fab_depgraph.specs.Listed.{AreDependencies}
+use Rattle.fab_depgraph.specs.Arena.{rows_of}
 use Rattle.fab_depgraph.proofs.Listing.Kept.{first_dependencies}
 use Rattle.fab_depgraph.proofs.arena.DepGraph.new.Goals as goal
 
@@ -19,7 +19,7 @@ invariant_of-result c =
     record {
       dependencies = subst (λ (ds : List Dep). AreDependencies (record { channels = length numbers; listed = ds; spare = 0; numbers = numbers })) (sym empty) (first_dependencies numbers c.in_ok-new-2.ensures.numbers);
       rows = c.in_ok-new.ensures ∙ (ap (λ n. replicate n []) (sym count) ∙ ap (rows_of (length numbers)) (sym empty));
-      idle = c.in_ok-new-3.ensures ∙ ap no_search (sym count);
+      marks = ap (λ (s : Search). length s.marks) c.in_ok-new-3.ensures ∙ (length-replicate c.args.channels false ∙ sym count);
       edge_room = omega (arith, ap (length {A = Dep}) empty);
       trail_room = omega (arith, ap (length {A = Dep}) empty);
     }

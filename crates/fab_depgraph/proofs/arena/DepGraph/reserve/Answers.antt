@@ -1,4 +1,4 @@
-use Rattle.std.proofs.Common.{◌≡◌, ◌<◌, ◌+◌, ◌≤◌, ◌^◌, ℕ, List, length, max, ◌∙◌, ap, sym, subst, arith}
+use Rattle.std.proofs.Common.{◌≡◌, ◌<◌, ◌+◌, ◌^◌, List, length, ◌∙◌, ap, sym, subst, arith}
 use Rattle.fab_depgraph.specs.declared.dep.Dep.{Dep}
 use Rattle.fab_depgraph.specs.Listed.{Dependencies, AreDependencies}
 use Rattle.fab_depgraph.specs.Arena.{rows_of}
@@ -18,7 +18,7 @@ invariant_of-self-2 c =
     record {
       dependencies = subst (λ (ds : List Dep). AreDependencies (record { channels = length inside.order; listed = ds; spare = room; numbers = inside.order })) (sym same) (respared g kept.dependencies room fits);
       rows = c.reserve.ensures.rows ∙ (kept.rows ∙ ap (rows_of (length inside.order)) (sym same));
-      idle = kept.idle;
+      marks = kept.marks;
       edge_room = omega (arith, c.in_ok-reserve.ensures.ok, long, c.len.ensures, inside.trail.ok.0);
       trail_room = omega (arith, c.in_ok-reserve-2.ensures.ok, long, inside.trail.ok.0);
     }

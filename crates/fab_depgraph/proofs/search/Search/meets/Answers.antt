@@ -3,7 +3,7 @@ use Rattle.std.proofs.lemmas.Option.{slice_get_within, slice_get-get_or, get_or_
 use Rattle.std.proofs.lemmas.Bool.{cases_lt}
 use Rattle.fab_model.specs.declared.rows.ChannelId.{ChannelId}
 use Rattle.fab_depgraph.specs.Edges.{row_at, channels_of}
-use Rattle.fab_depgraph.specs.Search.{Search, with_found, FindsMore, AreFound}
+use Rattle.fab_depgraph.specs.Search.{Search, no_search, with_found, FindsMore, AreFound}
 use Rattle.fab_depgraph.specs.Order.{is_reached}
 use Rattle.fab_depgraph.proofs.Searching.Found.{found_short, reached_within}
 use Rattle.fab_depgraph.proofs.Searching.Going.{going_first, going_on, short_now, row_known, comes_to, going_closed, going_short}
@@ -13,7 +13,7 @@ pub loop-channel-init : goal.loop-channel-init
 loop-channel-init g c =
     let rows = c.args.edges.now.rows in
     let numbers = c.args.order.now in
-    (0, omega arith, going_first rows numbers c.args.from.0 c.args.last.0 c.find.new.self c.args.from refl c.requires.from c.requires.below c.find.ensures.kept (c.find.ensures.found ∙ ap (λ (s : Search). with_found s c.args.from) c.requires.clean))
+    (0, omega arith, going_first rows numbers c.args.from.0 c.args.last.0 c.find.new.self c.args.from refl c.requires.from c.requires.below c.find.ensures.kept (c.find.ensures.found ∙ ap (λ (s : Search). with_found s c.args.from) (c.clear.ensures ∙ ap no_search c.requires.each)))
 
 pub successors-requires : goal.successors-requires
 successors-requires g c =
