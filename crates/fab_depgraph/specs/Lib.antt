@@ -4,4 +4,5 @@ pub mod Search
 pub mod Listed
 pub mod Arena
 pub mod Bound
+pub mod Lending
 pub mod Laws

@@ -4,10 +4,12 @@
 mod arena;
 mod dep;
 mod edges;
+mod layers;
 mod order;
 mod search;
 mod steps;
 
 pub use arena::DepGraph;
 pub use dep::{Added, Dep, Mark};
+pub use layers::Layers;
 pub use steps::Steps;
