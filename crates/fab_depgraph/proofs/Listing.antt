@@ -3,3 +3,4 @@ pub mod OneRow
 pub mod Added
 pub mod Bound
 pub mod Kept
+pub mod ClosedWalks

@@ -1,6 +1,5 @@
-use Rattle.std.proofs.Common.{◌≡◌, ◌+◌, ◌++◌, ◌∷◌, [], List, length, All, sym, subst, arith, length-append}
+use Rattle.std.proofs.Common.{◌≡◌, ◌++◌, ◌∷◌, [], arith, length-append}
 use Rattle.std.proofs.lemmas.List.Elements.{All-push}
-use Rattle.fab_depgraph.specs.Listed.{Dependencies}
 use Rattle.fab_depgraph.proofs.layers.Layers.new.Goals as goal
 
 pub loop-preserved : goal.loop-preserved
