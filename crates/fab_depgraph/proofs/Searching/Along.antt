@@ -1,5 +1,5 @@
 -- The steps of a search along the edges of one channel.
-use Rattle.std.proofs.Common.{◌≡◌, ◌≢◌, ℕ, ◌<◌, ◌≤◌, Bool, true, false, if◌then◌else◌, List, [], ◌∷◌, ◌++◌, length, set, All, Contains, slice_index, slice_index_or, refl, ◌∙◌, ap, subst, inl, inr, arith, length-append, length-set, append_assoc, get_or-set_same, get_or-set_other}
+use Rattle.std.proofs.Common.{sym, ◌≡◌, ◌≢◌, ℕ, ◌<◌, ◌≤◌, Bool, true, false, if◌then◌else◌, List, [], ◌∷◌, ◌++◌, length, set, All, Contains, slice_index, slice_index_or, refl, ◌∙◌, ap, subst, inl, inr, arith, length-append, length-set, append_assoc, get_or-set_same, get_or-set_other}
 use Rattle.std.proofs.lemmas.Bool.{cases_eq}
 use Rattle.std.proofs.lemmas.List.Elements.{All-push, Contains-append_left, Contains-append_right}
 use Rattle.std.proofs.Math.Seq.{get_or-append_seam}
@@ -48,6 +48,10 @@ more_found old s channels channel numbers bound below finds = go (is_reached s.m
       found = ap (λ (found : List ChannelId). found ++ channel ∷ []) finds.found ∙ append_assoc old.found finds.added (channel ∷ []);
       among = All-push (λ c. Contains (channels ++ channel ∷ []) c × (slice_index numbers c.0 < bound)) finds.added channel (λ k d k_in. (let was = finds.among k d k_in in (Contains-append_left channels (channel ∷ []) (slice_index_or finds.added k d) was.0, was.1))) (Contains-append_right channels (channel ∷ []) channel (first channel []), below);
     }
+
+-- the next one belongs to those that were passed
+pub passed_next : {X : Type 0} (all ys rest : List X) (x : X) → all ≡ ys ++ (x ∷ rest) → all ≡ ys ++ x ∷ [] ++ rest
+passed_next all ys rest x whole = whole ∙ sym (append_assoc ys (x ∷ []) rest)
 
 -- what holds of all holds of the next one
 pub next_known : {X : Type 0} (P : X → Type 0) (all ys rest : List X) (x : X) → all ≡ ys ++ (x ∷ rest) → All P all → P x

@@ -1,8 +1,8 @@
-use Rattle.std.proofs.Common.{◌≡◌, ◌≢◌, ◌<◌, ◌≤◌, ◌++◌, ◌∷◌, [], List, length, slice_index, sym, ◌∙◌, ap, subst, arith, append_assoc, length-append}
+use Rattle.std.proofs.Common.{◌≡◌, ◌==◌, ◌≢◌, ◌<◌, ◌≤◌, ◌++◌, ◌∷◌, [], List, length, slice_index, sym, ◌∙◌, ap, subst, arith, length-append}
 use Rattle.std.proofs.lemmas.Bool.{eqb-false}
 use Rattle.fab_model.specs.declared.rows.ChannelId.{ChannelId}
 use Rattle.fab_depgraph.specs.Search.{Search, FindsMore, AreFound}
-use Rattle.fab_depgraph.proofs.Searching.Along.{more_widened, more_found, passes_found, passes_over, next_known}
+use Rattle.fab_depgraph.proofs.Searching.Along.{more_widened, more_found, passes_found, passes_over, next_known, passed_next}
 use Rattle.fab_depgraph.proofs.search.Search.look_along.Goals as goal
 
 pub returns-then-eq-clause-more : goal.returns-then-eq-clause-more
@@ -23,10 +23,10 @@ loop-successor-preserved-then-number-bound g c =
     let rest : c.loop-successor.successor-iterator ≡ x ∷ c.next.new.self = c.in-Some.ensures.steps in
     let whole : c.args.successors ≡ ys ++ (x ∷ c.next.new.self) = was.left ∙ ap (λ zs. ys ++ zs) rest in
     let within : x.0 < length s.marks = omega (arith, was.more.each, c.requires.each, next_known (λ (c : ChannelId). c.0 < length numbers) c.args.successors ys c.next.new.self x whole c.requires.known) in
-    let differs : x.0 ≢ c.args.last.0 = eqb-false x.0 c.args.last.0 (sym c.if-eq.ensures) in
+    let differs : x.0 ≢ c.args.last.0 = eqb-false x.0 c.args.last.0 (sym {b = x.0 == c.args.last.0} c.if-eq.ensures) in
     let below : slice_index numbers x.0 < bound = omega (arith, c.number.ensures, c.number-bound.ensures, c.if-number-bound.true) in
     record {
-      left = whole ∙ sym (append_assoc ys (x ∷ []) c.next.new.self);
+      left = passed_next c.args.successors ys c.next.new.self x whole;
       kept = c.find.ensures.kept;
       more = subst (λ (s : Search). FindsMore c.args.self.now s (ys ++ x ∷ []) numbers bound) (sym c.find.ensures.found) (more_found c.args.self.now s ys x numbers bound below was.more);
       passes = subst (λ (s : Search). AreFound s (ys ++ x ∷ []) numbers c.args.last.0 bound) (sym c.find.ensures.found) (passes_found s ys x numbers c.args.last.0 bound within differs was.passes);
@@ -43,10 +43,10 @@ loop-successor-preserved g c =
     let s = c.loop-successor.self in
     let rest : c.loop-successor.successor-iterator ≡ x ∷ c.next.new.self = c.in-Some.ensures.steps in
     let whole : c.args.successors ≡ ys ++ (x ∷ c.next.new.self) = was.left ∙ ap (λ zs. ys ++ zs) rest in
-    let differs : x.0 ≢ c.args.last.0 = eqb-false x.0 c.args.last.0 (sym c.if-eq.ensures) in
+    let differs : x.0 ≢ c.args.last.0 = eqb-false x.0 c.args.last.0 (sym {b = x.0 == c.args.last.0} c.if-eq.ensures) in
     let above : bound ≤ slice_index numbers x.0 = omega (arith, c.number.ensures, c.number-bound.ensures, c.if-number-bound.false) in
     record {
-      left = whole ∙ sym {b = c.loop-successor.yielded ++ (c.in-Some.successor ∷ [] ++ c.next.new.self)} (append_assoc ys (x ∷ []) c.next.new.self);
+      left = passed_next c.args.successors ys c.next.new.self x whole;
       kept = was.kept;
       more = more_widened c.args.self.now s ys (x ∷ []) numbers bound was.more;
       passes = passes_over s ys x numbers c.args.last.0 bound above differs was.passes;
