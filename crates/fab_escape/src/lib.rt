@@ -12,3 +12,6 @@ pub use laws::{
     escape_is_acyclic, escape_numbers_rise, escape_routes_lead, escape_tree_is_tree,
     no_next_channel, one_forest, roots_tell_components, routes_stay_in_tree,
 };
+
+#[cfg(test)]
+mod tests;
