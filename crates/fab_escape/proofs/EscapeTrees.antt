@@ -24,7 +24,7 @@ use Rattle.fab_escape.proofs.WholeTree.{tree_length, next_in_tree, of_tree}
 module _ (t : Topology) (good : IsWellFormed t) (lane : ℕ) (f : Forest) (forest : IsEscapeForest t lane f) (to : ℕ) where
   leaves : (s c : ℕ) → next (escape_tree f to) s ≡ Some c → LeavesSwitch t c s
   leaves s c h =
-      let row : (row : ChannelRow) × (slice_get t.channels c ≡ Some row) × (row.tail.0 ≡ s) × IsOfTree f c row = routes_stay_in_tree t lane f s to c good forest (of_tree f s to c h) in
+      let row : (row : ChannelRow) × (slice_get t.channels c ≡ Some row) × (row.tail.0 ≡ s) × IsOfTree f c row = routes_stay_in_tree t lane f good forest s to c (of_tree f s to c h) in
       (row.0, row.1, row.2)
 
   pub is_tree : IsTree t (escape_tree f to)

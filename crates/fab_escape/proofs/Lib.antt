@@ -11,5 +11,6 @@ pub mod EndsOfRoutes
 pub mod WholeTree
 pub mod Numbers
 pub mod EscapeTrees
+pub mod NoRepeats
 pub mod OneForest
 pub mod Kept

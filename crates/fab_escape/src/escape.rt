@@ -16,7 +16,7 @@ ghost use Rattle.fab_hops.specs.HopCounts.{AreHops};
 ghost use Rattle.fab_tables.specs.TreeWalks.{IsTree};
 ghost use Rattle.fab_escape.specs.Forest.{root_of, link_into, escape_next, escape_tree};
 ghost use Rattle.fab_escape.specs.Trees.{IsEscapeForest};
-ghost use Rattle.fab_escape.specs.Laws.{EscapeIsAcyclic, RoutesLead, EndsWhereItShould};
+ghost use Rattle.fab_escape.specs.Laws.{EscapeIsAcyclic, NumbersRise, RoutesLead, RepeatsNoSwitch, StaysInTree, EndsWhereItShould};
 
 use crate::jumps::{depths_of, jumps_of};
 use crate::links::{Link, links_of};
@@ -61,9 +61,14 @@ impl Escape {
         // From every switch, the channels towards another make a tree.
         ensures routes { IfOk result (λ escape. (to : ℕ) → to < length fabric.now.switches → IsTree fabric.now (escape_tree escape to)) }
         ensures lead { IfOk result (λ escape. RoutesLead fabric.now escape) }
+        ensures once { IfOk result (λ escape. RepeatsNoSwitch fabric.now escape) }
+        // Each of their channels is a parent channel or the reverse of one.
+        ensures stay { IfOk result (λ escape. StaysInTree fabric.now escape) }
         // There is no next channel exactly where the two are equal or not connected.
         ensures none { IfOk result (λ escape. EndsWhereItShould fabric.now escape) }
-        // The escape dependencies of the lane close no walk, at any lane count.
+        // The trees alone number the channels, so that numbers rise along the escape dependencies of the lane, at any
+        // lane count: they close no walk.
+        ensures rise { IfOk result (λ escape. NumbersRise fabric.now lane escape) }
         ensures acyclic { IfOk result (λ escape. EscapeIsAcyclic fabric.now lane escape) }
     {
         let roots = roots_of(alloc, fabric, hops, lane)?;

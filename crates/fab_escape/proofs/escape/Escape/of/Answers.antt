@@ -4,8 +4,9 @@ use Rattle.fab_escape.specs.Climbing.{AreDepths}
 use Rattle.fab_escape.proofs.Making.{rooted}
 use Rattle.fab_escape.proofs.Kept.{forest_of, is_forest, are_depths, is_escape_forest, other_roots}
 use Rattle.fab_escape.proofs.EscapeTrees.{escape_tree_is_tree, escape_routes_lead}
-use Rattle.fab_escape.proofs.EndsOfRoutes.{no_next_channel}
-use Rattle.fab_escape.proofs.Numbers.{escape_is_acyclic}
+use Rattle.fab_escape.proofs.EndsOfRoutes.{no_next_channel, routes_stay_in_tree}
+use Rattle.fab_escape.proofs.Numbers.{escape_numbers_rise, escape_is_acyclic}
+use Rattle.fab_escape.proofs.NoRepeats.{escape_routes_repeat_no_switch}
 use Rattle.fab_escape.proofs.escape.Escape.of.Goals as goal
 
 pub links_of-requires-clause-roots : goal.links_of-requires-clause-roots
@@ -70,3 +71,27 @@ returns-clause-acyclic c =
     let links = c.in_ok-links.links.items in
     let forest = is_escape_forest t c.args.lane roots links c.in_ok-roots.ensures.roots (subst (λ xs. AreLinks t (length t.switches) xs links) c.deref.ensures.value c.in_ok-links.ensures) in
     escape_is_acyclic t c.args.lane (forest_of roots links) c.in_ok-roots.ensures.kept.rows forest
+
+pub returns-clause-once : goal.returns-clause-once
+returns-clause-once c =
+    let t = c.args.fabric.now in
+    let roots = c.in_ok-roots.roots.items in
+    let links = c.in_ok-links.links.items in
+    let forest = is_escape_forest t c.args.lane roots links c.in_ok-roots.ensures.roots (subst (λ xs. AreLinks t (length t.switches) xs links) c.deref.ensures.value c.in_ok-links.ensures) in
+    escape_routes_repeat_no_switch t c.args.lane (forest_of roots links) c.in_ok-roots.ensures.kept.rows forest
+
+pub returns-clause-stay : goal.returns-clause-stay
+returns-clause-stay c =
+    let t = c.args.fabric.now in
+    let roots = c.in_ok-roots.roots.items in
+    let links = c.in_ok-links.links.items in
+    let forest = is_escape_forest t c.args.lane roots links c.in_ok-roots.ensures.roots (subst (λ xs. AreLinks t (length t.switches) xs links) c.deref.ensures.value c.in_ok-links.ensures) in
+    routes_stay_in_tree t c.args.lane (forest_of roots links) c.in_ok-roots.ensures.kept.rows forest
+
+pub returns-clause-rise : goal.returns-clause-rise
+returns-clause-rise c =
+    let t = c.args.fabric.now in
+    let roots = c.in_ok-roots.roots.items in
+    let links = c.in_ok-links.links.items in
+    let forest = is_escape_forest t c.args.lane roots links c.in_ok-roots.ensures.roots (subst (λ xs. AreLinks t (length t.switches) xs links) c.deref.ensures.value c.in_ok-links.ensures) in
+    (λ lanes. escape_numbers_rise t lanes c.args.lane (forest_of roots links) c.in_ok-roots.ensures.kept.rows forest)
