@@ -14,3 +14,4 @@ pub mod EscapeTrees
 pub mod NoRepeats
 pub mod OneForest
 pub mod Kept
+pub mod ForestExists

@@ -62,8 +62,11 @@ module _ (t : Topology) (good : IsWellFormed t) (s root n : ℕ) (far : IsHopCou
         sym (ap (λ (r : ChannelRow). r.tail.0) (get_or_from_slice_get t.channels c row row there))
         ∙ leaves_from t good s c row (slice_get_within t.channels c row there) first past
 
+    pub leads : LeadsTo t s to.0
+    leads = (row, contains_read t.channels c row there, leaves, comes)
+
     pub tip_low : to.0 < length t.switches
-    tip_low = leads_below t good s to.0 (row, contains_read t.channels c row there, leaves, comes)
+    tip_low = leads_below t good s to.0 leads
 
     pub is_link : (reverse : ℕ) → IsReverse t c reverse → IsHopCount t to.0 root n → NoneLeadsUp t root s c → IsLink t root s (record { channel = c; reverse = reverse; parent = to.0 })
     is_link reverse back near none = record {
