@@ -10,7 +10,8 @@ mod roots;
 pub use escape::Escape;
 pub use laws::{
     escape_is_acyclic, escape_numbers_rise, escape_routes_lead, escape_routes_repeat_no_switch,
-    escape_tree_is_tree, no_next_channel, one_forest, roots_tell_components, routes_stay_in_tree,
+    escape_tree_is_tree, forest_exists, no_next_channel, one_forest, roots_tell_components,
+    routes_stay_in_tree,
 };
 
 #[cfg(test)]

@@ -1,7 +1,8 @@
 //! The roots of a lane's escape trees.
 //!
-//! The root of a component of n switches is the switch at place `lane mod n` of its centre order. For S switches it
-//! takes O(S * S) time beside one centre order for each component.
+//! The root of a component of n switches is the switch at place `lane mod n` of its centre order (`IsRoot` in
+//! `specs/Trees.antt`). A switch with an earlier one in its component has the root of that one, so each component is
+//! ordered once. For S switches it takes O(S * S) time beside the centre orders, and 4 bytes for each switch.
 ghost use Rattle.std.specs.Prelude.{◌≡◌, ◌≢◌, ℕ, ◌<◌, length, None, slice_index_or, IfOk, IfSome};
 ghost use Rattle.fab_model.specs.Topology.{Topology};
 ghost use Rattle.fab_model.specs.WellFormed.{IsFabric, IsWellFormed};
