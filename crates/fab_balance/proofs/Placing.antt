@@ -35,7 +35,7 @@ no_entry count lids s lid = go (index_of lid lids)
   where
     go : (place : Option ℕ) → port_in_column (no_entries count lids) s place ≡ 255
     go None = refl
-    go (Some i) = all_alike (count * length lids) 255 (cell (length lids) s i)
+    go (Some i) = grind (arith, all_alike)
 
 pub none_placed : (t : Topology) (e : Entries) → IsFabric t → e ≡ no_entries (length t.switches) (lids_of t) → HasPlaced t e 0
 none_placed t e good is = record {
