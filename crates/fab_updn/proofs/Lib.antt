@@ -1,0 +1,4 @@
+pub mod Turns
+pub mod Reaching
+pub mod NoUpAfterDown
+pub mod Refusals
