@@ -4,3 +4,8 @@ pub mod NoUpAfterDown
 pub mod Refusals
 pub mod Nearest
 pub mod Roots
+pub mod KeyOrders
+pub mod Beyond
+pub mod Sequences
+pub mod Falling
+pub mod Rising

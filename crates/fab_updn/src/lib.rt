@@ -1,9 +1,14 @@
 //! Up/down routing: a route that went down doesn't go up again.
 #![tactic(auto)]
 
+mod costs;
+mod keys;
 mod laws;
 mod ranks;
 mod updn;
 
-pub use laws::{legal_turns_are_acyclic, no_down_then_up, one_list_of_ranks, one_rank, one_refused_pair, plan_or_refusal, up_down_reaches};
+pub use laws::{
+    legal_turns_are_acyclic, no_down_then_up, one_list_of_ranks, one_rank, one_refused_pair,
+    plan_or_refusal, up_down_reaches,
+};
 pub use updn::UpdnFault;
