@@ -9,3 +9,4 @@ pub mod Beyond
 pub mod Sequences
 pub mod Falling
 pub mod Rising
+pub mod CostRows

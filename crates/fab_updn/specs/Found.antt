@@ -1,5 +1,5 @@
 -- What the steps of up/down routing find: roots, the order of keys, costs, and the ports that are legal.
-use Rattle.std.specs.Prelude.{◌≡◌, ◌≢◌, ℕ, suc, ◌+◌, ◌<◌, ◌⊎◌, List, length, Contains, All, AllPairs, Option, Some, None, slice_index_or}
+use Rattle.std.specs.Prelude.{◌≡◌, ◌≢◌, ℕ, suc, ◌+◌, ◌<◌, ◌⊎◌, List, [], IsSome, length, Contains, All, AllPairs, Option, Some, None, slice_index_or}
 use Rattle.fab_graph.specs.Least.{IsLeast}
 use Rattle.fab_model.specs.declared.rows.SwitchId.{SwitchId}
 use Rattle.fab_model.specs.declared.rows.ChannelRow.{ChannelRow}
@@ -88,3 +88,25 @@ IsNextAbove t ranks costs s (Above k) cost = cost ≡ Above k
 IsNextAbove t ranks costs s Missing (Below n) = ⊥
 IsNextAbove t ranks costs s Missing (Above n) = (m : ℕ) × (n ≡ m + 1) × IsLeast (IsCountBeyond t ranks costs Up s) m
 IsNextAbove t ranks costs s Missing Missing = (n : ℕ) → ¬ IsCountBeyond t ranks costs Up s n
+
+-- the costs of all switches on the way to each, found by an order of keys
+pub record AreAllCosts (t : Topology) (ranks : List ℕ) (table : List (List Cost)) : Type 0 where
+  pub order : List SwitchId
+  pub is_order : IsKeyOrder ranks order
+  pub whole : length table ≡ length t.switches
+  pub each : (to : ℕ) → to < length t.switches → AreCostsTo t ranks to (slice_index_or table to [])
+
+-- two switches have a kept hop count, and the first has no cost on the way to the second
+abbrev pub IsMissingPair : HopTable → List (List Cost) → ℕ → ℕ → Type 0
+IsMissingPair h table from to = IsSome (hop_count h from to) × (cost_at (slice_index_or table to []) from ≡ Missing)
+
+-- they are the first such pair
+pub record IsFirstMissingFrom (h : HopTable) (table : List (List Cost)) (switches from to : ℕ) : Type 0 where
+  pub within : to < switches
+  pub missing : IsMissingPair h table from to
+  pub first : (b : ℕ) → b < to → ¬ IsMissingPair h table from b
+
+pub record IsFirstMissing (h : HopTable) (table : List (List Cost)) (switches from to : ℕ) : Type 0 where
+  pub within : from < switches
+  pub here : IsFirstMissingFrom h table switches from to
+  pub first : (a b : ℕ) → a < from → b < switches → ¬ IsMissingPair h table a b

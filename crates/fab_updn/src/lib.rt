@@ -1,7 +1,9 @@
 //! Up/down routing: a route that went down doesn't go up again.
 #![tactic(auto)]
 
+mod cost_table;
 mod costs;
+mod first_pair;
 mod keys;
 mod laws;
 mod ranks;
