@@ -10,3 +10,6 @@ pub mod Sequences
 pub mod Falling
 pub mod Rising
 pub mod CostRows
+pub mod Listing
+pub mod Legal
+pub mod Balancing

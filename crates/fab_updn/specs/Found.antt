@@ -1,5 +1,5 @@
 -- What the steps of up/down routing find: roots, the order of keys, costs, and the ports that are legal.
-use Rattle.std.specs.Prelude.{◌≡◌, ◌≢◌, ℕ, suc, ◌+◌, ◌<◌, ◌⊎◌, List, [], IsSome, length, Contains, All, AllPairs, Option, Some, None, slice_index_or}
+use Rattle.std.specs.Prelude.{◌≡◌, ◌≢◌, ℕ, suc, ◌+◌, ◌<◌, ◌⊎◌, ◌↔◌, List, [], IsSome, length, Contains, All, AllPairs, Option, Some, None, slice_index_or}
 use Rattle.fab_graph.specs.Least.{IsLeast}
 use Rattle.fab_model.specs.declared.rows.SwitchId.{SwitchId}
 use Rattle.fab_model.specs.declared.rows.ChannelRow.{ChannelRow}
@@ -12,6 +12,7 @@ use Rattle.fab_updn.specs.declared.costs.Cost.{Cost}
 use Rattle.fab_updn.specs.declared.costs.Cost.TheVariants.{Below, Above, Missing}
 use Rattle.fab_updn.specs.Ranks.{IsRoot, HasSmallerKey, GoesUp, GoesDown}
 use Rattle.fab_updn.specs.Costs.{IsDown, LeadsDown, IsCostAbove}
+use Rattle.fab_updn.specs.UpDown.{IsAt}
 
 -- the kept hop count to a listed root
 abbrev pub IsCountToListed : HopTable → List SwitchId → ℕ → ℕ → Type 0
@@ -36,12 +37,19 @@ abbrev pub Goes : Direction → List ℕ → ChannelRow → Type 0
 Goes Up ranks row = GoesUp ranks row
 Goes Down ranks row = GoesDown ranks row
 
--- the number of a cost, and the cost kept for a switch
+-- the number of a cost
 abbrev pub count_of : Cost → Option ℕ
 count_of (Below n) = Some n
 count_of (Above n) = Some n
 count_of Missing = None
 
+-- the number of one that goes down all the way
+abbrev pub below_of : Cost → Option ℕ
+below_of (Below n) = Some n
+below_of (Above n) = None
+below_of Missing = None
+
+-- the cost kept for a switch
 abbrev pub cost_at : List Cost → ℕ → Cost
 cost_at costs s = slice_index_or costs s Missing
 
@@ -110,3 +118,21 @@ pub record IsFirstMissing (h : HopTable) (table : List (List Cost)) (switches fr
   pub within : from < switches
   pub here : IsFirstMissingFrom h table switches from to
   pub first : (a b : ℕ) → a < from → b < switches → ¬ IsMissingPair h table a b
+
+-- a channel between switches of these costs may be taken: it goes down where a down walk leads there, otherwise up, and the cost falls by one
+abbrev pub IsLegalStep : List ℕ → ChannelRow → Cost → Cost → Type 0
+IsLegalStep ranks row (Below n) (Below m) = (n ≡ m + 1) × GoesDown ranks row
+IsLegalStep ranks row (Below n) (Above m) = ⊥
+IsLegalStep ranks row (Below n) Missing = ⊥
+IsLegalStep ranks row (Above n) (Below m) = (n ≡ m + 1) × GoesUp ranks row
+IsLegalStep ranks row (Above n) (Above m) = (n ≡ m + 1) × GoesUp ranks row
+IsLegalStep ranks row (Above n) Missing = ⊥
+IsLegalStep ranks row Missing there = ⊥
+
+-- by the kept costs
+abbrev pub IsLegalRow : List ℕ → List Cost → ChannelRow → Type 0
+IsLegalRow ranks costs row = IsLegalStep ranks row (cost_at costs row.tail.0) (cost_at costs row.tip.0)
+
+-- the listed ports are just those of a switch whose channels may be taken
+abbrev pub AreLegalPorts : Topology → List ℕ → List Cost → ℕ → List ℕ → Type 0
+AreLegalPorts t ranks costs s ports = (port : ℕ) → Contains ports port ↔ ((row : ChannelRow) × IsAt t s port row × IsLegalRow ranks costs row)

@@ -12,7 +12,7 @@
 ghost use Rattle.std.specs.Prelude.{◌≡◌, ℕ, ◌+◌, ◌<◌, length, IfOk, MatchOption};
 ghost use Rattle.fab_graph.specs.Least.{IsLeast};
 ghost use Rattle.fab_model.specs.WellFormed.{IsFabric};
-ghost use Rattle.fab_updn.specs.Found.{Goes, IsKeyOrder, AreCostsTo, AreDowns, AreSmall, IsCountBeyond, IsNextBelow, IsNextAbove, count_of, cost_at};
+ghost use Rattle.fab_updn.specs.Found.{Goes, IsKeyOrder, AreCostsTo, AreDowns, AreSmall, IsCountBeyond, IsNextBelow, IsNextAbove, below_of, count_of, cost_at};
 
 use crate::keys::{Direction, goes};
 use fab_model::{ChannelId, ChannelRow, Fabric, SwitchId};
@@ -30,6 +30,16 @@ pub(crate) enum Cost {
 }
 
 impl Cost {
+    /// The length of the shortest walk that goes down all the way.
+    pub(crate) fn below(self) -> Option<u16>
+        ensures { result ≡ below_of self }
+    {
+        match self {
+            Cost::Below(count) => Some(count),
+            Cost::Above(_) | Cost::Missing => None,
+        }
+    }
+
     /// The number of the cost.
     pub(crate) fn count(self) -> Option<u16>
         ensures { result ≡ count_of self }

@@ -6,6 +6,7 @@ mod costs;
 mod first_pair;
 mod keys;
 mod laws;
+mod legal_ports;
 mod ranks;
 mod updn;
 
