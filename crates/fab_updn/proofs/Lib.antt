@@ -13,3 +13,4 @@ pub mod CostRows
 pub mod Listing
 pub mod Legal
 pub mod Balancing
+pub mod Eligibility

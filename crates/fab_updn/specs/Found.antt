@@ -136,3 +136,11 @@ IsLegalRow ranks costs row = IsLegalStep ranks row (cost_at costs row.tail.0) (c
 -- the listed ports are just those of a switch whose channels may be taken
 abbrev pub AreLegalPorts : Topology → List ℕ → List Cost → ℕ → List ℕ → Type 0
 AreLegalPorts t ranks costs s ports = (port : ℕ) → Contains ports port ↔ ((row : ChannelRow) × IsAt t s port row × IsLegalRow ranks costs row)
+
+-- the costs that a table keeps, by destination and then by switch
+abbrev pub costs_of : List (List Cost) → ℕ → ℕ → Option ℕ
+costs_of table to s = count_of (cost_at (slice_index_or table to []) s)
+
+-- all connected switches have one
+abbrev pub HasNoMissing : Topology → List (List Cost) → Type 0
+HasNoMissing t table = (s to : ℕ) → s < length t.switches → to < length t.switches → AreConnected t s to → cost_at (slice_index_or table to []) s ≢ Missing

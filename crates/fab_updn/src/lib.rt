@@ -8,6 +8,7 @@ mod keys;
 mod laws;
 mod legal_ports;
 mod ranks;
+mod tables;
 mod updn;
 
 pub use laws::{
