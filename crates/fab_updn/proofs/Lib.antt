@@ -14,3 +14,4 @@ pub mod Listing
 pub mod Legal
 pub mod Balancing
 pub mod Eligibility
+pub mod Pairs

@@ -27,5 +27,5 @@ one_refused_pair t named from to a b x y =
 
 pub plan_or_refusal : PlanOrRefusal
 plan_or_refusal t named p from to x y =
-    let same : y.0 ≡ x.ranks = one_list_of_ranks t named y.0 x.ranks y.1 x.are_ranks in
-    x.legal from to (subst (λ ranks. IsFirstWithoutRoute t ranks from to) same y.2).lacks
+    let same : y.0 ≡ x.tables.ranks = one_list_of_ranks t named y.0 x.tables.ranks y.1 x.tables.are_ranks in
+    x.tables.legal from to (subst (λ ranks. IsFirstWithoutRoute t ranks from to) same y.2).lacks

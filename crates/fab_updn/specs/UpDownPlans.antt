@@ -3,6 +3,7 @@ use Rattle.std.specs.Prelude.{◌≡◌, ℕ, ◌<◌, ◌⊎◌, List}
 use Rattle.fab_model.specs.Topology.{Topology}
 use Rattle.fab_model.specs.Connected.{AreConnected}
 use Rattle.fab_tables.specs.declared.plan.Plan.{Plan}
+use Rattle.fab_tables.specs.Entries.{Entries}
 use Rattle.fab_certify.specs.EnginePlans.{IsEnginePlan}
 use Rattle.fab_updn.specs.declared.updn.UpdnFault.{UpdnFault}
 use Rattle.fab_updn.specs.declared.updn.UpdnFault.TheVariants.{NoLegalRoute, Memory}
@@ -19,12 +20,16 @@ pub record IsFirstWithoutRoute (t : Topology) (ranks : List ℕ) (from to : ℕ)
   pub lacks : LacksRoute t ranks from to
   pub first : (a b : ℕ) → (a < from) ⊎ ((a ≡ from) × (b < to)) → ¬ LacksRoute t ranks a b
 
--- each connected pair has a cost; one lane, level 0 for each source and LID connected to it, numbered
-pub record IsUpDownPlan (t : Topology) (named : List ℕ) (p : Plan) : Type 0 where
+-- up/down tables by the ranks of a fabric in which each connected pair has a cost
+pub record AreLegalTables (t : Topology) (named : List ℕ) (e : Entries) : Type 0 where
   pub ranks : List ℕ
   pub are_ranks : AreRanks t named ranks
   pub legal : (from to : ℕ) → ¬ LacksRoute t ranks from to
-  pub tables : AreUpDownTables t ranks p.tables
+  pub tables : AreUpDownTables t ranks e
+
+-- one lane, level 0 for each source and LID connected to it, numbered
+pub record IsUpDownPlan (t : Topology) (named : List ℕ) (p : Plan) : Type 0 where
+  pub tables : AreLegalTables t named p.tables
   pub lanes : IsEnginePlan t 1 (λ s lid n. n ≡ 0) p
 
 -- the first pair is refused
