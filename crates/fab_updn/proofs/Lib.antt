@@ -15,3 +15,4 @@ pub mod Legal
 pub mod Balancing
 pub mod Eligibility
 pub mod Pairs
+pub mod Plans

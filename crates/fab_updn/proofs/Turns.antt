@@ -31,7 +31,7 @@ module _ (t : Topology) (ranks : List ℕ) where
   less-total : (a b : ℕ) → a ≢ b → Less a b ⊎ Less b a
   less-total a b differ = grind (arith)
 
-  up_or_down : (row : ChannelRow) → row.tail.0 ≢ row.tip.0 → GoesUp ranks row ⊎ (GoesDown ranks row × Less row.tail.0 row.tip.0)
+  pub up_or_down : (row : ChannelRow) → row.tail.0 ≢ row.tip.0 → GoesUp ranks row ⊎ (GoesDown ranks row × Less row.tail.0 row.tip.0)
   up_or_down row other = elim (less-total row.tip.0 row.tail.0 (λ e. other (sym e))) [
     | inl up ↦ inl up
     | inr down ↦ inr ((λ up. less-self row.tip.0 (less-trans row.tip.0 row.tail.0 row.tip.0 up down)), down)
