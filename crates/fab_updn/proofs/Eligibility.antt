@@ -1,11 +1,8 @@
 -- The legal ports by a table of costs are eligible exactly where an entry is chosen.
-use Rattle.std.proofs.Common.{◌≡◌, ℕ, ◌<◌, inl, inr, List, [], length, Some, refl, sym, ◌∙◌, ap, subst, arith, Contains}
+use Rattle.std.proofs.Common.{ℕ, ◌<◌, inl, inr, List, [], length, refl, subst, arith, Contains}
 use Rattle.std.specs.Prelude.{slice_index_or, ◌↔◌}
-use Rattle.fab_model.specs.declared.rows.Place.{Place}
-use Rattle.fab_model.specs.Topology.{Topology, place_of}
-use Rattle.fab_model.specs.Connected.{AreConnected}
+use Rattle.fab_model.specs.Topology.{Topology}
 use Rattle.fab_model.specs.WellFormed.{IsWellFormed}
-use Rattle.fab_tables.specs.FixedEntries.{IsChosen}
 use Rattle.fab_tables.proofs.Paths.FallingRoutes.{place_below, channel_port_small}
 use Rattle.fab_updn.specs.declared.costs.Cost.{Cost}
 use Rattle.fab_updn.specs.UpDown.{IsLegalPort}

@@ -1,22 +1,20 @@
 -- The lengths of down walks, by descending key.
-use Rattle.std.proofs.Common.{◌≡◌, ◌≢◌, ℕ, zero, suc, ◌+◌, ◌<◌, ◌≤◌, ◌⊎◌, inl, inr, List, length, refl, sym, ◌∙◌, ap, subst, arith, Contains, Option, Some, None, get_or-set_same, get_or-set_other, length-set}
+use Rattle.std.proofs.Common.{◌≡◌, ◌≢◌, ℕ, zero, suc, ◌+◌, ◌<◌, ◌≤◌, ◌⊎◌, inl, inr, List, length, refl, sym, ◌∙◌, ap, subst, arith, Some, get_or-set_same, get_or-set_other, length-set}
 use Rattle.std.specs.Prelude.{slice_set, slice_index_or}
 use Rattle.std.proofs.lemmas.List.{get_or_default}
 use Rattle.std.proofs.lemmas.Bool.{cases_eq}
 use Rattle.std.proofs.lemmas.Option.{same_Some, none-some}
-use Rattle.std.proofs.lemmas.List.Elements.{All-contains}
 use Rattle.fab_graph.specs.Walks.{Walk}
 use Rattle.fab_graph.specs.Least.{IsLeast}
 use Rattle.fab_model.specs.declared.rows.SwitchId.{SwitchId}
-use Rattle.fab_model.specs.declared.rows.ChannelRow.{ChannelRow}
 use Rattle.fab_model.specs.Topology.{Topology}
 use Rattle.fab_model.specs.WellFormed.{IsWellFormed}
 use Rattle.fab_tables.proofs.Joined.Tips.{tip_below}
-use Rattle.fab_updn.specs.declared.keys.Direction.TheVariants.{Up, Down}
+use Rattle.fab_updn.specs.declared.keys.Direction.TheVariants.{Down}
 use Rattle.fab_updn.specs.declared.costs.Cost.{Cost}
 use Rattle.fab_updn.specs.declared.costs.Cost.TheVariants.{Below, Above, Missing}
-use Rattle.fab_updn.specs.Ranks.{HasSmallerKey, StepsDown, GoesDown}
-use Rattle.fab_updn.specs.Costs.{IsDown, LeadsDown}
+use Rattle.fab_updn.specs.Ranks.{HasSmallerKey, StepsDown}
+use Rattle.fab_updn.specs.Costs.{IsDown}
 use Rattle.fab_updn.specs.Found.{count_of, cost_at, IsCountBeyond, AreSmall, IsDownOf, AreDowns, IsNextBelow}
 use Rattle.fab_updn.proofs.Sequences.{key-trans, key-self, key-total, switch_at, IsAmong, IsSequence, before, fresh, last_or_before, one_later}
 

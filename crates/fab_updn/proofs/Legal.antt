@@ -1,9 +1,8 @@
 -- The channels that may be taken by the kept costs are those of the legal ports, and where there is a cost, there is one.
-use Rattle.std.proofs.Common.{◌≡◌, ◌≢◌, ℕ, zero, suc, ◌+◌, ◌<◌, ◌≤◌, ◌⊎◌, inl, inr, List, length, refl, sym, ◌∙◌, ap, subst, arith, Contains, Option, Some, None}
+use Rattle.std.proofs.Common.{◌≡◌, ◌≢◌, ℕ, zero, suc, ◌<◌, inl, inr, List, length, refl, sym, ◌∙◌, ap, subst, arith, Contains, Option, Some}
 use Rattle.std.specs.Prelude.{slice_get}
-use Rattle.std.proofs.lemmas.Option.{same_Some, none-some, slice_get-get_or, get_or_from_slice_get}
+use Rattle.std.proofs.lemmas.Option.{same_Some, none-some, slice_get-get_or}
 use Rattle.fab_graph.specs.Walks.{Walk}
-use Rattle.fab_graph.specs.Least.{IsLeast}
 use Rattle.fab_graph.proofs.Graphs.{one_least}
 use Rattle.fab_model.specs.declared.rows.ChannelRow.{ChannelRow}
 use Rattle.fab_model.specs.Topology.{Topology, channel_at}
@@ -16,8 +15,8 @@ use Rattle.fab_tables.proofs.Paths.FallingRoutes.{channel_found}
 use Rattle.fab_updn.specs.declared.costs.Cost.{Cost}
 use Rattle.fab_updn.specs.declared.costs.Cost.TheVariants.{Below, Above, Missing}
 use Rattle.fab_updn.specs.Ranks.{GoesUp, GoesDown, StepsUp, StepsDown}
-use Rattle.fab_updn.specs.Costs.{IsDown, LeadsDown, IsCostAbove}
-use Rattle.fab_updn.specs.UpDown.{IsAt, IsDownPort, IsUpPort, IsLegalPort}
+use Rattle.fab_updn.specs.Costs.{IsDown, LeadsDown}
+use Rattle.fab_updn.specs.UpDown.{IsAt, IsLegalPort}
 use Rattle.fab_updn.specs.Found.{count_of, cost_at, IsCostOf, AreCostsTo, IsLegalStep, IsLegalRow}
 
 -- a walk of channels that go down is a walk
@@ -73,12 +72,18 @@ module _ (t : Topology) (good : IsWellFormed t) (ranks : List ℕ) (to : ℕ) (c
       (subst (λ y. IsLegalStep ranks x.0 (cost_at costs y) (cost_at costs x.0.tip.0)) (leaves s port x.0 x.1) x.2)
 
   pub port_is_row : (s port : ℕ) → s < length t.switches → IsLegalPort t ranks kept to s port → (row : ChannelRow) × IsAt t s port row × IsLegalRow ranks costs row
-  port_is_row s port low (inl x) =
-      (x.0, x.2, subst (λ y. IsLegalStep ranks x.0 (cost_at costs y) (cost_at costs x.0.tip.0)) (sym (leaves s port x.0 x.2))
-      (down_step s port x.0 x.1 (cost_at costs s) (cost_at costs x.0.tip.0) (are.each s low) (are.each x.0.tip.0 (tip_low s port x.0 x.2)) x.3 x.4 x.5))
-  port_is_row s port low (inr x) =
-      (x.0, x.2, subst (λ y. IsLegalStep ranks x.0 (cost_at costs y) (cost_at costs x.0.tip.0)) (sym (leaves s port x.0 x.2))
-      (up_step s port x.0 x.1 (cost_at costs s) (cost_at costs x.0.tip.0) (are.each s low) x.3 x.4 x.5 x.6))
+  port_is_row s port low (inl x) = (
+    x.0,
+    x.2,
+    subst (λ y. IsLegalStep ranks x.0 (cost_at costs y) (cost_at costs x.0.tip.0)) (sym (leaves s port x.0 x.2))
+        (down_step s port x.0 x.1 (cost_at costs s) (cost_at costs x.0.tip.0) (are.each s low) (are.each x.0.tip.0 (tip_low s port x.0 x.2)) x.3 x.4 x.5),
+  )
+  port_is_row s port low (inr x) = (
+    x.0,
+    x.2,
+    subst (λ y. IsLegalStep ranks x.0 (cost_at costs y) (cost_at costs x.0.tip.0)) (sym (leaves s port x.0 x.2))
+        (up_step s port x.0 x.1 (cost_at costs s) (cost_at costs x.0.tip.0) (are.each s low) x.3 x.4 x.5 x.6),
+  )
 
   -- ---- there is one where there is a cost
 

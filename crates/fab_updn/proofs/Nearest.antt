@@ -1,9 +1,8 @@
 -- The least hop count to listed roots.
-use Rattle.std.proofs.Common.{◌≡◌, ℕ, zero, suc, ◌+◌, ◌<◌, ◌≤◌, ◌⊎◌, inl, inr, List, [], ◌∷◌, ◌++◌, length, take, refl, sym, ◌∙◌, ap, subst, arith, All, Contains, Option, Some, None, MatchOption}
+use Rattle.std.proofs.Common.{◌≡◌, ℕ, zero, suc, ◌≤◌, ◌⊎◌, inl, inr, List, [], ◌∷◌, ◌++◌, refl, sym, ◌∙◌, subst, arith, All, Option, Some, None, MatchOption}
 use Rattle.std.specs.Prelude.{IsSome}
 use Rattle.std.proofs.lemmas.Option.{same_Some, none-some}
 use Rattle.std.proofs.lemmas.List.Elements.{All-append, All-contains, Contains-append_left, Contains-push, Contains-push_cases}
-use Rattle.std.proofs.Math.Seq.{take-suc}
 use Rattle.fab_graph.specs.Least.{IsLeast}
 use Rattle.fab_model.specs.declared.rows.SwitchId.{SwitchId}
 use Rattle.fab_hops.specs.HopCounts.{HopTable, hop_count}

@@ -1,5 +1,5 @@
 -- What certifying up/down tables answers: the numbered plan.
-use Rattle.std.proofs.Common.{◌≡◌, ℕ, ◌<◌, List, [], refl, sym, ◌∙◌, ap, subst, arith, Some, None}
+use Rattle.std.proofs.Common.{◌≡◌, ℕ, ◌<◌, List, refl, sym, ◌∙◌, ap, subst, arith, None}
 use Rattle.std.specs.Prelude.{IfSome}
 use Rattle.fab_graph.specs.Walks.{IsAcyclic, SameGraph}
 use Rattle.fab_graph.proofs.Parts.{part_acyclic}
@@ -11,25 +11,23 @@ use Rattle.fab_tables.specs.declared.verdict.Verdict.{Verdict}
 use Rattle.fab_tables.specs.Entries.{Entries}
 use Rattle.fab_tables.specs.LaneTables.{LaneTables, HasLanePerLevel}
 use Rattle.fab_tables.specs.Fit.{IsSource, LanesFit, PlanFits}
-use Rattle.fab_tables.specs.Dependencies.{IsOneLane, Depends, DependsByNode}
+use Rattle.fab_tables.specs.Dependencies.{IsOneLane, AreReadLanes, Depends}
 use Rattle.fab_tables.specs.Plain.{IsPlainlyUsed, DependsPlainly}
-use Rattle.fab_tables.specs.Verdicts.{IsRefusal}
 use Rattle.fab_tables.proofs.Verdicts.PlainLaws.{plain_agrees}
 use Rattle.fab_certify.specs.declared.certified.Certified.{Certified}
 use Rattle.fab_certify.specs.declared.certified.Certified.TheVariants.{Numbers, Refused, RingUsed}
-use Rattle.fab_certify.specs.Certificate.{IsCertificate, IsCertificateBy, IsPlainCertificate, IsPlainCertificateBy}
+use Rattle.fab_certify.specs.Certificate.{IsCertificate, IsPlainCertificate}
 use Rattle.fab_certify.specs.EnginePlans.{HasLevels, IsEnginePlan}
 use Rattle.fab_certify.specs.Numbered.{IsNumberedBy, IsNumberedPlan, IsPlainlySound}
 use Rattle.fab_certify.proofs.Engines.EngineLanes.{FollowsAtLevel, engine_sound, levelwise_acyclic}
 use Rattle.fab_certify.proofs.Plainly.{plain_refusal_is_unsound}
-use Rattle.fab_updn.specs.Ranks
 use Rattle.fab_updn.specs.UpDown.{AreUpDownTables}
 use Rattle.fab_updn.specs.UpDownPlans.{AreLegalTables, IsUpDownPlan}
 use Rattle.fab_updn.specs.Laws.{IsLegalTurn}
 use Rattle.fab_updn.proofs.Turns.{legal_turns_are_acyclic}
 use Rattle.fab_updn.proofs.Reaching.{up_down_reaches}
 use Rattle.fab_updn.proofs.NoUpAfterDown.{follow_legally}
-use Rattle.fab_certify.proofs.ImageWalks.{closed_of_image}
+use Rattle.fab_certify.proofs.ReadAlike.{ring_is_cyclic}
 
 -- each level is 0
 abbrev pub IsLevel0 : ℕ → ℕ → ℕ → Type 0
@@ -69,3 +67,28 @@ module _ (t : Topology) (good : IsWellFormed t) (ranks : List ℕ) (e : Entries)
       where
         lanes_fit : LanesFit t is.lanes
         lanes_fit = subst (λ o. IfSome o (LanesFit t)) is.has_lanes fits.lanes
+
+-- ---- the other answers don't come
+
+pub no_refusal : (t : Topology) → IsWellFormed t → (named : List ℕ) (p : Plan) → AreLegalTables t named p.tables → p.lanes ≡ None → (answer : Certified) → IsPlainCertificate t p answer → (fault : Verdict) → answer ≡ Refused fault → ⊥
+no_refusal t good named p legal none answer plain fault e =
+    let x : IsPlainCertificate t p (Refused fault) = subst (λ a. IsPlainCertificate t p a) e plain in
+    let one : IsOneLane t x.0 = subst (λ o. AreReadLanes t o x.0) none x.1 in
+    plain_refusal_is_unsound t p.tables x.0 fault one.maps.no_pair x.2 (sound t good legal.ranks p.tables legal.tables x.0 one)
+
+pub no_ring : (t : Topology) → IsWellFormed t → (named : List ℕ) (p : Plan) → AreLegalTables t named p.tables → p.lanes ≡ None → (answer : Certified) → IsCertificate t p answer → (ring : List ℕ) → answer ≡ RingUsed ring → ⊥
+no_ring t good named p legal none answer all ring e =
+    let x : IsCertificate t p (RingUsed ring) = subst (λ a. IsCertificate t p a) e all in
+    let one : IsOneLane t x.0 = subst (λ o. AreReadLanes t o x.0) none x.1 in
+    let same : SameGraph (Depends t p.tables x.0) (DependsPlainly t p.tables x.0) = (plain_agrees t p.tables x.0 one.maps.no_pair).2 in
+    ring_is_cyclic t p.tables x.0 ring x.2.1 x.2.0
+    (part_acyclic (Depends t p.tables x.0) (DependsPlainly t p.tables x.0) (λ v w d. (same v w).0 d) (acyclic t good legal.ranks p.tables legal.tables x.0 one))
+
+pub numbers_are : (t : Topology) → IsWellFormed t → (named : List ℕ) (p : Plan) → AreLegalTables t named p.tables → p.lanes ≡ None → (answer : Certified) → IsPlainCertificate t p answer → (new : Plan) → answer ≡ Numbers new → PlanFits t new → IsUpDownPlan t named new
+numbers_are t good named p legal none answer plain new e fits =
+    let x : IsPlainCertificate t p (Numbers new) = subst (λ a. IsPlainCertificate t p a) e plain in
+    let one : IsOneLane t x.0 = subst (λ o. AreReadLanes t o x.0) none x.1 in
+    record {
+      tables = subst (λ f. AreLegalTables t named f) (sym x.2.1.tables) legal;
+      lanes = engine_plan t good legal.ranks p.tables legal.tables x.0 one new x.2.1 fits;
+    }

@@ -1,5 +1,5 @@
 -- There is one refused pair at most, and no plan beside it.
-use Rattle.std.proofs.Common.{◌≡◌, ℕ, ◌<◌, ◌⊎◌, inl, inr, List, sym, subst, arith}
+use Rattle.std.proofs.Common.{◌≡◌, ℕ, ◌<◌, ◌⊎◌, inl, inr, List, sym, subst}
 use Rattle.std.proofs.lemmas.Bool.{cases_order}
 use Rattle.fab_model.specs.Topology.{Topology}
 use Rattle.fab_updn.specs.UpDownPlans.{IsFirstWithoutRoute}

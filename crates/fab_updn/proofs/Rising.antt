@@ -1,16 +1,15 @@
 -- The costs of switches from which no down walk leads there, by ascending key.
-use Rattle.std.proofs.Common.{◌≡◌, ◌≢◌, ℕ, zero, suc, ◌+◌, ◌<◌, ◌≤◌, ◌⊎◌, inl, inr, List, length, refl, sym, ◌∙◌, ap, subst, arith, Contains, Option, Some, None, get_or-set_same, get_or-set_other, length-set}
+use Rattle.std.proofs.Common.{◌≡◌, ◌≢◌, ℕ, ◌+◌, ◌<◌, ◌≤◌, ◌⊎◌, inl, inr, List, length, refl, sym, ◌∙◌, ap, subst, arith, Option, Some, get_or-set_same, get_or-set_other}
 use Rattle.std.specs.Prelude.{slice_set}
 use Rattle.std.proofs.lemmas.Bool.{cases_eq}
 use Rattle.std.proofs.lemmas.Option.{same_Some, none-some}
-use Rattle.fab_graph.specs.Least.{IsLeast}
 use Rattle.fab_model.specs.declared.rows.SwitchId.{SwitchId}
 use Rattle.fab_model.specs.Topology.{Topology}
-use Rattle.fab_updn.specs.declared.keys.Direction.TheVariants.{Up, Down}
+use Rattle.fab_updn.specs.declared.keys.Direction.TheVariants.{Up}
 use Rattle.fab_updn.specs.declared.costs.Cost.{Cost}
 use Rattle.fab_updn.specs.declared.costs.Cost.TheVariants.{Below, Above, Missing}
 use Rattle.fab_updn.specs.Ranks.{HasSmallerKey, StepsUp}
-use Rattle.fab_updn.specs.Costs.{LeadsDown, IsCostAbove}
+use Rattle.fab_updn.specs.Costs.{IsCostAbove}
 use Rattle.fab_updn.specs.Found.{count_of, cost_at, IsCountBeyond, AreSmall, IsCostOf, IsDownOf, AreDowns, AreCostsTo, IsNextAbove}
 use Rattle.fab_updn.proofs.Sequences.{key-trans, key-self, switch_at, IsAmong, IsSequence, fresh, not_back, last_or_before, one_later, it_is_among}
 

@@ -1,13 +1,12 @@
 -- Turns that don't go down and then up close no walk.
-use Rattle.std.proofs.Common.{◌≡◌, ◌≢◌, ℕ, zero, suc, ◌<◌, ◌⊎◌, inl, inr, sym, ◌∙◌, subst, arith, List, length, Some, slice_get, Contains}
-use Rattle.std.proofs.lemmas.Option.{same_Some, get_or_from_slice_get, slice_get_within}
+use Rattle.std.proofs.Common.{◌≡◌, ◌≢◌, ℕ, zero, suc, ◌<◌, ◌⊎◌, inl, inr, sym, ◌∙◌, subst, arith, List, length, Some, slice_get}
+use Rattle.std.proofs.lemmas.Option.{same_Some}
 use Rattle.std.proofs.lemmas.Grind.{same_number_lists}
 use Rattle.fab_graph.specs.Walks.{Walk, IsAcyclic}
 use Rattle.fab_graph.proofs.Graphs.{one_least}
 use Rattle.fab_model.specs.declared.rows.SwitchId.{SwitchId}
 use Rattle.fab_model.specs.declared.rows.ChannelRow.{ChannelRow}
-use Rattle.fab_model.specs.Topology.{Topology, reversed}
-use Rattle.fab_model.specs.WellFormed.{IsWellFormed}
+use Rattle.fab_model.specs.Topology.{Topology}
 use Rattle.fab_updn.specs.Ranks.{IsAtRoot, HasSmallerKey, GoesUp, GoesDown}
 use Rattle.fab_updn.specs.Laws.{OneRank, OneListOfRanks, IsLegalTurn, LegalTurnsAreAcyclic}
 

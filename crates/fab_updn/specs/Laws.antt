@@ -1,6 +1,6 @@
 -- Laws of up/down routing. Those that take any ranks hold of the right ones too.
-use Rattle.std.specs.Prelude.{◌≡◌, ℕ, ◌<◌, ◌⊎◌, ◌↔◌, List, [], Option, Some, IsSome, length, slice_get}
-use Rattle.fab_graph.specs.Walks.{Walk, IsAcyclic}
+use Rattle.std.specs.Prelude.{◌≡◌, ℕ, ◌⊎◌, List, Some, slice_get}
+use Rattle.fab_graph.specs.Walks.{IsAcyclic}
 use Rattle.fab_model.specs.declared.rows.ChannelRow.{ChannelRow}
 use Rattle.fab_model.specs.Topology.{Topology}
 use Rattle.fab_model.specs.WellFormed.{IsWellFormed}
@@ -10,10 +10,9 @@ use Rattle.fab_tables.specs.Entries.{Entries}
 use Rattle.fab_tables.specs.Route.{route}
 use Rattle.fab_tables.specs.VirtualChannels.{Follow}
 use Rattle.fab_tables.specs.Certified.{Reaches}
-use Rattle.fab_updn.specs.Ranks.{IsRank, AreRanks, GoesUp, GoesDown, StepsUp, StepsDown}
-use Rattle.fab_updn.specs.Costs.{AreCosts}
+use Rattle.fab_updn.specs.Ranks.{IsRank, AreRanks, GoesUp, GoesDown}
 use Rattle.fab_updn.specs.UpDown.{AreUpDownTables}
-use Rattle.fab_updn.specs.UpDownPlans.{IsUpDownPlan, LacksRoute, IsRefusedPair}
+use Rattle.fab_updn.specs.UpDownPlans.{IsUpDownPlan, IsRefusedPair}
 
 -- a switch has one rank at most, and the ranks of a fabric are one list
 abbrev pub OneRank : Type 0

@@ -5,8 +5,8 @@ use Rattle.fab_model.specs.Connected.{AreConnected}
 use Rattle.fab_tables.specs.declared.plan.Plan.{Plan}
 use Rattle.fab_tables.specs.Entries.{Entries}
 use Rattle.fab_certify.specs.EnginePlans.{IsEnginePlan}
-use Rattle.fab_updn.specs.declared.updn.UpdnFault.{UpdnFault}
-use Rattle.fab_updn.specs.declared.updn.UpdnFault.TheVariants.{NoLegalRoute, Memory}
+use Rattle.fab_updn.specs.declared.up_down.UpdnFault.{UpdnFault}
+use Rattle.fab_updn.specs.declared.up_down.UpdnFault.TheVariants.{NoLegalRoute, Memory}
 use Rattle.fab_updn.specs.Ranks.{AreRanks}
 use Rattle.fab_updn.specs.Costs.{HasNoCost}
 use Rattle.fab_updn.specs.UpDown.{AreUpDownTables}

@@ -29,11 +29,7 @@ impl Model for CostTable {
 
 impl CostTable {
     /// The costs by the ranks, which are indexed by `SwitchId`. The error is want of memory.
-    pub(crate) fn of(
-        alloc: Global,
-        fabric: &Fabric,
-        ranks: &[u16],
-    ) -> Result<CostTable, AllocError>
+    pub(crate) fn of(alloc: Global, fabric: &Fabric, ranks: &[u16]) -> Result<CostTable, AllocError>
         requires { length ranks.now ≡ length fabric.now.switches }
         ensures { IfOk result (AreAllCosts fabric.now ranks.now) }
     {

@@ -9,10 +9,10 @@ mod laws;
 mod legal_ports;
 mod ranks;
 mod tables;
-mod updn;
+mod up_down;
 
 pub use laws::{
     legal_turns_are_acyclic, no_down_then_up, one_list_of_ranks, one_rank, one_refused_pair,
     plan_or_refusal, up_down_reaches,
 };
-pub use updn::UpdnFault;
+pub use up_down::{UpdnFault, updn};

@@ -35,7 +35,14 @@ pub(crate) fn up_down_tables(
     let mut tables = with_fixed_entries(alloc, fabric)?;
     let mut eligible = Vec::with_capacity(alloc, 255)?;
     for s in 0..fabric.switches() {
-        choose_balanced(fabric, ranks, costs, SwitchId(s), &mut tables, &mut eligible)?;
+        choose_balanced(
+            fabric,
+            ranks,
+            costs,
+            SwitchId(s),
+            &mut tables,
+            &mut eligible,
+        )?;
     }
     Ok(tables)
 }

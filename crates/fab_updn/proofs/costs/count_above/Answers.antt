@@ -1,4 +1,4 @@
-use Rattle.std.proofs.Common.{◌≡◌, ◌∙◌, arith, length-set}
+use Rattle.std.proofs.Common.{◌∙◌, arith, length-set}
 use Rattle.fab_updn.proofs.Sequences.{upward}
 use Rattle.fab_updn.proofs.Rising.{one_risen, small_after, all_risen}
 use Rattle.fab_updn.proofs.costs.count_above.Goals as goal

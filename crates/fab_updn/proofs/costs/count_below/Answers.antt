@@ -1,9 +1,9 @@
-use Rattle.std.proofs.Common.{◌≡◌, ◌<◌, ◌+◌, ℕ, length, sym, subst, arith, reverse}
+use Rattle.std.proofs.Common.{length, arith, reverse}
 use Rattle.std.proofs.lemmas.List.{length_push, length-reverse}
 use Rattle.std.proofs.lemmas.Iterator.Adapters.{YieldsList-from_rev_slice}
 use Rattle.std.proofs.lemmas.Iterator.Consumers.{YieldsList-turn, YieldsList-end}
 use Rattle.fab_updn.proofs.Sequences.{downward}
-use Rattle.fab_updn.proofs.Falling.{IsFalling, one_fallen_at, all_fallen}
+use Rattle.fab_updn.proofs.Falling.{one_fallen_at, all_fallen}
 use Rattle.fab_updn.proofs.costs.count_below.Goals as goal
 
 pub cost_below-requires-clause-small : goal.cost_below-requires-clause-small

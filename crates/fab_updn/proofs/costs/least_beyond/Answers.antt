@@ -1,4 +1,4 @@
-use Rattle.std.proofs.Common.{◌≡◌, ◌<◌, ◌≤◌, ◌+◌, ℕ, length, sym, ◌∙◌, ap, subst, refl, arith}
+use Rattle.std.proofs.Common.{◌<◌, ◌≤◌, subst, arith}
 use Rattle.fab_updn.proofs.Beyond.{none_so_far, least_of_all, leaves_here, tip_within, no_count, first_count, another_count}
 use Rattle.fab_updn.proofs.costs.least_beyond.Goals as goal
 use Rattle.fab_updn.proofs.costs.least_beyond.Goals.{in-Some+in-None, in-Some+in-Some-least, in_default}

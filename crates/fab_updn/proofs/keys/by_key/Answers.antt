@@ -1,6 +1,5 @@
-use Rattle.std.proofs.Common.{◌≡◌, ℕ, List, length, map, sym, ◌∙◌, ap, subst, refl, arith, slice_index}
+use Rattle.std.proofs.Common.{◌≡◌, List, length, map, sym, ◌∙◌, ap, subst, refl, arith}
 use Rattle.std.proofs.lemmas.Result.{IfOk-weaker}
-use Rattle.fab_model.specs.declared.rows.SwitchId.{SwitchId}
 use Rattle.fab_hops.proofs.Ranked.{Ranked}
 use Rattle.fab_updn.specs.Found.{IsKeyOrder}
 use Rattle.fab_updn.proofs.KeyOrders.{AreRanked, one_ranked_more, key_order}

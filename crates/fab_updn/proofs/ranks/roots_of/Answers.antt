@@ -1,6 +1,5 @@
-use Rattle.std.proofs.Common.{◌≡◌, ◌<◌, ℕ, List, Option, length, map, sym, ◌∙◌, ap, subst, refl, arith, All, None, Some}
+use Rattle.std.proofs.Common.{◌≡◌, ◌<◌, ℕ, List, length, subst, arith, None, Some}
 use Rattle.fab_model.specs.declared.rows.SwitchId.{SwitchId}
-use Rattle.fab_hops.specs.HopCounts.{hop_count}
 use Rattle.fab_updn.proofs.Nearest.{IsNearestOf, some_there}
 use Rattle.fab_tables.proofs.Joined.Search.{none_found, some_found}
 use Rattle.fab_updn.proofs.Roots.{AreRootsBelow, has_root, some_member, has_centre, are_roots}

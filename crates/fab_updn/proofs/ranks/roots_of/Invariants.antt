@@ -1,6 +1,4 @@
 -- The roots of the switches so far.
-use Rattle.std.proofs.Common.{map}
-use Rattle.fab_model.specs.declared.rows.SwitchId.{SwitchId}
 use Rattle.fab_updn.proofs.Roots.{AreRootsBelow}
 use Rattle.fab_updn.proofs.ranks.roots_of.Given as goal
 

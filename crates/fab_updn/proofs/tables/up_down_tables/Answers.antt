@@ -1,5 +1,4 @@
 use Rattle.std.proofs.Common.{arith}
-use Rattle.fab_tables.specs.FixedEntries.{HasChosenEntries}
 use Rattle.fab_balance.proofs.Choosing.{no_switches, one_switch_more, all_switches}
 use Rattle.fab_balance.proofs.LoadCounts.{balanced_kept}
 use Rattle.fab_updn.specs.UpDown.{IsUpDownChoice, IsLegalPort}

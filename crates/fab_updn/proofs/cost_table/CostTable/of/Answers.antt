@@ -1,4 +1,4 @@
-use Rattle.std.proofs.Common.{◌++◌, ◌∷◌, [], ◌+◌, List, Vec, Global, map, sym, ◌∙◌, ap, subst}
+use Rattle.std.proofs.Common.{◌+◌, List, Vec, Global, map, sym, ◌∙◌, ap, subst}
 use Rattle.fab_updn.specs.declared.costs.Cost.{Cost}
 use Rattle.fab_updn.proofs.CostRows.{AreCostRows, one_row_more, map_push}
 use Rattle.fab_updn.proofs.cost_table.CostTable.of.Goals as goal
