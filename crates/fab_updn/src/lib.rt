@@ -16,3 +16,6 @@ pub use laws::{
     plan_or_refusal, up_down_reaches,
 };
 pub use up_down::{UpdnFault, updn};
+
+#[cfg(test)]
+mod tests;
