@@ -21,7 +21,7 @@ use Rattle.fab_balance.specs.MinHop.{IsMinHopChoice}
 use Rattle.fab_balance.specs.Loads.{load_of, IsBalancedChoice, IsPicked}
 use Rattle.fab_balance.proofs.LidPlaces.{IsOfTerminal, terminal_there, terminal_in_use, some_port}
 use Rattle.fab_balance.proofs.LoadCounts.{is_sent, same_count, none_counted, one_counted, loads_same, balanced_kept}
-use Rattle.fab_balance.proofs.EntriesSet.{entry_kept}
+use Rattle.fab_tables.proofs.Rows.EntriesSet.{entry_kept}
 use Rattle.fab_balance.proofs.Placing.{all_alike}
 use Rattle.fab_balance.proofs.Choosing.{IsChoosing, none_chosen, one_passed, one_chosen, nearer_is_chosen, none_is_chosen}
 

@@ -5,7 +5,6 @@ pub mod TablesExist
 pub mod ShortestRoutes
 pub mod DorRoutes
 pub mod NearerPorts
-pub mod EntriesSet
 pub mod Placing
 pub mod LidPlaces
 pub mod LoadCounts

@@ -1,5 +1,4 @@
 -- Tables of least weight.
-pub mod EntriesSet
 pub mod FallingTrees
 pub mod LaidLids
 pub mod LaidTrees

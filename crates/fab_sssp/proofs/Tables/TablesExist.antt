@@ -24,7 +24,7 @@ use Rattle.fab_tables.proofs.Paths.FallingRoutes.{channel_port_small}
 use Rattle.fab_sssp.specs.WeightTables.{WeightTable, weight_of, start_weights}
 use Rattle.fab_sssp.specs.Laws.{LeastWeightTablesExist}
 use Rattle.fab_sssp.specs.Laying.{port_of_row, port_along, HasItsChannel, IsLaidAt, IsLaid, KeepsOtherLids}
-use Rattle.fab_sssp.proofs.Tables.EntriesSet.{fits_kept, entry_kept}
+use Rattle.fab_tables.proofs.Rows.EntriesSet.{fits_kept, entry_kept}
 use Rattle.fab_sssp.proofs.Tables.LidPlaces.{has_place}
 use Rattle.fab_sssp.proofs.Tables.LaidTrees.{one_laid, all_laid}
 use Rattle.fab_sssp.proofs.Tables.LaidLids.{IsLaying, laying_begins, one_lid_read, all_lids_laid}

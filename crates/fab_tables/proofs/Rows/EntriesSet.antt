@@ -1,5 +1,5 @@
 -- What setting an entry changes, and that the fixed entries stay where a chosen one is set.
-use Rattle.std.proofs.Common.{◌≡◌, ◌≢◌, ℕ, ◌<◌, ◌⊎◌, inl, inr, false, Option, Some, None, length, refl, sym, ◌∙◌, ap, subst, arith, Contains, length-set}
+use Rattle.std.proofs.Common.{◌≡◌, ◌≢◌, ℕ, ◌<◌, ◌≤◌, ◌⊎◌, inl, inr, false, Option, Some, None, length, refl, sym, ◌∙◌, ap, subst, arith, Contains, length-set}
 use Rattle.std.proofs.lemmas.List.{length-replicate}
 use Rattle.std.proofs.lemmas.List.Elements.{All-set, All-replicate}
 use Rattle.std.specs.Prelude.{◌==◌, ◌&&◌}
@@ -14,7 +14,7 @@ use Rattle.fab_tables.specs.Fit.{EntriesFit}
 use Rattle.fab_tables.specs.FixedEntries.{HasFixedEntries, IsChosen}
 use Rattle.fab_tables.proofs.Joined.Ascending.{lids_are}
 use Rattle.fab_tables.proofs.Joined.Lids.{lid_in_use}
-use Rattle.fab_tables.proofs.Rows.Cells.{one_entry_changes, chosen, passed}
+use Rattle.fab_tables.proofs.Rows.Cells.{one_entry_changes, port_past, chosen, passed}
 
 -- the switches and the LIDs stay
 pub entries_keep : (e : Entries) (s lid port : ℕ) → ((with_entry e s lid port).switches ≡ e.switches) × ((with_entry e s lid port).in_use ≡ e.in_use)
@@ -63,6 +63,10 @@ module _ (t : Topology) (e : Entries) (s lid port : ℕ) (fits : EntriesFit t e)
       differs : (o ≡ s) ⊎ (o ≢ s) → ((o == s) && (n == lid)) ≡ false
       differs (inl same) = and_right (o == s) (n == lid) (ne_eqb n lid (other same))
       differs (inr not_same) = and_left (o == s) (n == lid) (ne_eqb o s not_same)
+
+-- past the switches every entry is 255
+pub entry_past : (t : Topology) (e : Entries) (s lid : ℕ) → EntriesFit t e → length t.switches ≤ s → entry e s lid ≡ 255
+entry_past t e s lid fits past = port_past e s (index_of lid e.in_use) (omega (arith, past, fits.switches))
 
 -- a chosen entry is none of the fixed ones
 pub fixed_kept : (t : Topology) (e : Entries) (s lid port to : ℕ) → HasFixedEntries t e → port < 256 → s < length t.switches → IsChosen t s lid to →
