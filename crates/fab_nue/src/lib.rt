@@ -7,6 +7,8 @@ mod lid_list;
 mod nue;
 mod room;
 mod search;
+#[cfg(test)]
+mod tests;
 
 pub use choices::{Choice, Choices};
 pub use laws::{

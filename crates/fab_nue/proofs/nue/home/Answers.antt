@@ -1,6 +1,6 @@
 use Rattle.std.proofs.Common.{◌∙◌, refl, sym, subst}
 use Rattle.std.specs.Prelude.{IsSome}
-use Rattle.fab_nue.proofs.LidPlaces.{has_place}
+use Rattle.fab_nue.proofs.Laying.LidPlaces.{has_place}
 use Rattle.fab_nue.proofs.nue.home.Goals as goal
 
 pub unwrap-requires : goal.unwrap-requires

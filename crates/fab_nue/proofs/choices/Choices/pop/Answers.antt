@@ -2,7 +2,7 @@ use Rattle.std.proofs.Common.{heap_items, ◌∷◌, refl}
 use Rattle.std.proofs.lemmas.List.Sorted.{IsPermutation-map}
 use Rattle.std.specs.declared.cmp.Reverse.{Reverse}
 use Rattle.fab_nue.specs.declared.choices.Choice.{Choice}
-use Rattle.fab_nue.proofs.HeapOrder.{least_of}
+use Rattle.fab_nue.proofs.Heaps.HeapOrder.{least_of}
 use Rattle.fab_nue.proofs.choices.Choices.pop.Goals as goal
 
 pub returns : goal.returns

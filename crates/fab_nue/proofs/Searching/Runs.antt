@@ -14,10 +14,10 @@ use Rattle.fab_tables.proofs.Verdicts.CertifiedLaws.{contains_of}
 use Rattle.fab_depgraph.specs.Listed.{IsListed}
 use Rattle.fab_nue.specs.Search.{tail, with_channel, swapped, way_weight, IsSettled, IsNotAfterPair, Steps, ComesTo, IsComplete, IsImpasse, Completes, GetsStuck}
 use Rattle.fab_nue.specs.Laws.{OneStep, OneEnd, CompletesOrStuck}
-use Rattle.fab_nue.proofs.Growing.{same_or_other}
-use Rattle.fab_nue.proofs.SearchTrees.{LeadsTree, empty_leads_tree, channel_leaves, along_connected}
-use Rattle.fab_nue.proofs.Settling.{settles_leads}
-use Rattle.fab_nue.proofs.Turning.{swaps_leads}
+use Rattle.fab_nue.proofs.Searching.Growing.{same_or_other}
+use Rattle.fab_nue.proofs.Searching.SearchTrees.{LeadsTree, empty_leads_tree, channel_leaves, along_connected}
+use Rattle.fab_nue.proofs.Searching.Settling.{settles_leads}
+use Rattle.fab_nue.proofs.Searching.Turning.{swaps_leads}
 
 -- ---- one step
 

@@ -12,11 +12,11 @@ use Rattle.fab_tables.specs.Entries.{Entries, entry}
 use Rattle.fab_tables.specs.Route.{Route, route}
 use Rattle.fab_sssp.specs.Carried.{terminals_carried, weight_after}
 use Rattle.fab_nue.specs.NuePlan.{IsLaid, laid_before}
-use Rattle.fab_nue.proofs.Growing.{same_or_other}
-use Rattle.fab_nue.proofs.Choosing.{contains_decided}
-use Rattle.fab_nue.proofs.Members.{Rise, rise_from, first, later, first_or_later, in_filter, from_filter, same_members}
+use Rattle.fab_nue.proofs.Searching.Growing.{same_or_other}
+use Rattle.fab_nue.proofs.Searching.Choosing.{contains_decided}
+use Rattle.fab_nue.proofs.Laying.Members.{Rise, rise_from, first, later, first_or_later, in_filter, from_filter, same_members}
 use Rattle.fab_tables.proofs.Paths.SameRoutes.{routes_same}
-use Rattle.fab_nue.proofs.SameSearch.{sum_same}
+use Rattle.fab_nue.proofs.Searching.SameSearch.{sum_same}
 
 filter_same : (p q : ℕ → Bool) (xs : List ℕ) → ((x : ℕ) → Contains xs x → p x ≡ q x) → filter p xs ≡ filter q xs
 filter_same p q [] same = refl

@@ -18,9 +18,9 @@ use Rattle.fab_depgraph.specs.declared.dep.Dep.{Dep}
 use Rattle.fab_depgraph.specs.Listed.{IsListed}
 use Rattle.fab_nue.specs.Search.{tail, empty_tree, IsSettled, ClosesNone}
 use Rattle.fab_nue.specs.Laws.{IsSearchTree, EmptyTreeLeads, Grows}
-use Rattle.fab_nue.proofs.Growing.{same_or_other}
+use Rattle.fab_nue.proofs.Searching.Growing.{same_or_other}
 use Rattle.fab_tables.proofs.Paths.TreeWalks.{goes_walk_of, walk_goes, walk_of_next}
-use Rattle.fab_nue.proofs.Swapping.{Avoids}
+use Rattle.fab_nue.proofs.Searching.Swapping.{Avoids}
 
 -- `IsSearchTree`, for any dependencies in use
 pub record LeadsTree (t : Topology) (used : ℕ → ℕ → Type 0) (to : ℕ) (tree : List (Option ℕ)) : Type 0 where

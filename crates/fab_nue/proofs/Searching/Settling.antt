@@ -12,9 +12,9 @@ use Rattle.fab_tables.specs.TreeWalks.{GoesAlong, DependsInTree, walk_of}
 use Rattle.fab_depgraph.specs.Listed.{IsListed}
 use Rattle.fab_nue.specs.Search.{tail, with_channel, IsSettled, ClosesNone, Settles}
 use Rattle.fab_nue.specs.Laws.{Grows, SettlingLeads}
-use Rattle.fab_nue.proofs.Growing.{read_same, read_other, same_or_other}
+use Rattle.fab_nue.proofs.Searching.Growing.{read_same, read_other, same_or_other}
 use Rattle.fab_tables.proofs.Paths.TreeWalks.{goes_walk_of, walk_goes}
-use Rattle.fab_nue.proofs.SearchTrees.{LeadsTree, leads_tree, search_tree, channel_leaves, tail_below, leads_before, settled_on, settled_or_not, unsettled_none, stands_grown, walk_grows}
+use Rattle.fab_nue.proofs.Searching.SearchTrees.{LeadsTree, leads_tree, search_tree, channel_leaves, tail_below, leads_before, settled_on, settled_or_not, unsettled_none, stands_grown, walk_grows}
 
 -- a channel from an unsettled switch to a settled one
 pub record IsLeaf (t : Topology) (to : ℕ) (tree : List (Option ℕ)) (c : ℕ) : Type 0 where

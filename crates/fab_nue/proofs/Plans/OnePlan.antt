@@ -28,14 +28,14 @@ use Rattle.fab_escape.specs.EscapeSet.{home, DependsToEscape}
 use Rattle.fab_escape.specs.Laws.{OneForest, EscapeTreeIsTree}
 use Rattle.fab_nue.specs.NuePlan.{DependsToEscapeIn, IsLaid, IsInUse, laid_before, IsPortInTree, IsNueLevel, IsLaying}
 use Rattle.fab_nue.specs.Laws.{OneNuePlan}
-use Rattle.fab_nue.proofs.Growing.{same_or_other}
-use Rattle.fab_nue.proofs.Choosing.{contains_decided}
-use Rattle.fab_nue.proofs.Members.{from_filter, first, later}
-use Rattle.fab_nue.proofs.LidPlaces.{has_place}
-use Rattle.fab_nue.proofs.KeptLists.{one_kept}
-use Rattle.fab_nue.proofs.SameSearch.{sum_same, one_laid_tree}
-use Rattle.fab_nue.proofs.Reaching.{EscapeTreesAre, kept_stays, home_below}
-use Rattle.fab_nue.proofs.CertifiedPlan.{one_nue_level}
+use Rattle.fab_nue.proofs.Searching.Growing.{same_or_other}
+use Rattle.fab_nue.proofs.Searching.Choosing.{contains_decided}
+use Rattle.fab_nue.proofs.Laying.Members.{from_filter, first, later}
+use Rattle.fab_nue.proofs.Laying.LidPlaces.{has_place}
+use Rattle.fab_nue.proofs.Laying.KeptLists.{one_kept}
+use Rattle.fab_nue.proofs.Searching.SameSearch.{sum_same, one_laid_tree}
+use Rattle.fab_nue.proofs.Laying.Reaching.{EscapeTreesAre, kept_stays, home_below}
+use Rattle.fab_nue.proofs.Plans.CertifiedPlan.{one_nue_level}
 
 -- a sum looks at the members alone
 sum_members : (f g : ℕ → ℕ) (xs : List ℕ) → ((x : ℕ) → Contains xs x → f x ≡ g x) → sum_by f xs ≡ sum_by g xs

@@ -12,10 +12,10 @@ use Rattle.fab_tables.specs.TreeWalks.{GoesAlong, walk_of}
 use Rattle.fab_depgraph.specs.Listed.{IsListed}
 use Rattle.fab_nue.specs.Search.{tail, with_channel, swapped, IsSettled, IsAllowed, Swaps}
 use Rattle.fab_nue.specs.Laws.{SwappingLeads}
-use Rattle.fab_nue.proofs.Growing.{read_same, read_other, same_or_other}
-use Rattle.fab_nue.proofs.Swapping.{AgreeBut, IsTurned, walk_apart, ends_still}
+use Rattle.fab_nue.proofs.Searching.Growing.{read_same, read_other, same_or_other}
+use Rattle.fab_nue.proofs.Searching.Swapping.{AgreeBut, IsTurned, walk_apart, ends_still}
 use Rattle.fab_tables.proofs.Paths.TreeWalks.{goes_walk_of, walk_goes}
-use Rattle.fab_nue.proofs.SearchTrees.{LeadsTree, leads_tree, search_tree, channel_leaves, tail_below, leads_before, leads_after, avoids_unsettled, avoids_from}
+use Rattle.fab_nue.proofs.Searching.SearchTrees.{LeadsTree, leads_tree, search_tree, channel_leaves, tail_below, leads_before, leads_after, avoids_unsettled, avoids_from}
 
 -- a walk that ends at the destination
 abbrev LeadsFrom : Topology → List (Option ℕ) → ℕ → ℕ → Type 0

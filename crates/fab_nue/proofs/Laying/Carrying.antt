@@ -22,12 +22,12 @@ use Rattle.fab_escape.specs.Laws.{EndsWhereItShould}
 use Rattle.fab_nue.specs.Search.{ComesTo}
 use Rattle.fab_nue.specs.NuePlan.{IsLaid, IsLaidTree, IsLaying}
 use Rattle.fab_tables.proofs.Paths.TreeWalks.{goes_walk_of}
-use Rattle.fab_nue.proofs.SearchTrees.{LeadsTree, empty_next, settled_or_not, unsettled_none, along_connected}
-use Rattle.fab_nue.proofs.Runs.{run_leads, step_acyclic}
-use Rattle.fab_nue.proofs.Reaching.{EscapeTreesAre, home_below, laid_is_tree}
-use Rattle.fab_nue.proofs.LaidRoutes.{laid_route}
-use Rattle.fab_nue.proofs.SameSearch.{sum_same}
-use Rattle.fab_nue.proofs.LidPlaces.{has_place}
+use Rattle.fab_nue.proofs.Searching.SearchTrees.{LeadsTree, empty_next, settled_or_not, unsettled_none, along_connected}
+use Rattle.fab_nue.proofs.Searching.Runs.{run_leads, step_acyclic}
+use Rattle.fab_nue.proofs.Laying.Reaching.{EscapeTreesAre, home_below, laid_is_tree}
+use Rattle.fab_nue.proofs.Laying.LaidRoutes.{laid_route}
+use Rattle.fab_nue.proofs.Searching.SameSearch.{sum_same}
+use Rattle.fab_nue.proofs.Laying.LidPlaces.{has_place}
 
 same_or_other : (xs ys : List ℕ) → (xs ≡ ys) ⊎ (xs ≢ ys)
 same_or_other [] [] = inl refl

@@ -23,11 +23,11 @@ use Rattle.fab_escape.specs.Forest.{Forest, root_of, link_of, link_into, down_or
 use Rattle.fab_escape.specs.EscapeSet.{home}
 use Rattle.fab_nue.specs.Search.{ComesTo}
 use Rattle.fab_nue.specs.NuePlan.{IsLaid, IsLaidTree, IsPortInTree, IsLaying}
-use Rattle.fab_nue.proofs.Growing.{same_or_other}
+use Rattle.fab_nue.proofs.Searching.Growing.{same_or_other}
 use Rattle.fab_tables.proofs.Paths.TreeWalks.{goes_walk_of}
-use Rattle.fab_nue.proofs.SearchTrees.{empty_next}
-use Rattle.fab_nue.proofs.Runs.{run_leads, step_acyclic}
-use Rattle.fab_nue.proofs.Reaching.{EscapeTreesAre, port_of_tree, laid_is_tree, laid_reaches}
+use Rattle.fab_nue.proofs.Searching.SearchTrees.{empty_next}
+use Rattle.fab_nue.proofs.Searching.Runs.{run_leads, step_acyclic}
+use Rattle.fab_nue.proofs.Laying.Reaching.{EscapeTreesAre, port_of_tree, laid_is_tree, laid_reaches}
 
 stops_otherwise : (c : ℕ) → Stop Delivered ≡ Along c → ⊥
 stops_otherwise c e = cc

@@ -17,10 +17,10 @@ use Rattle.fab_depgraph.specs.declared.dep.Dep.{Dep}
 use Rattle.fab_depgraph.specs.Listed.{dep_of, IsListed}
 use Rattle.fab_nue.specs.Search.{tail, with_channel, IsSettled, ClosesNone}
 use Rattle.fab_nue.specs.Added.{dep_behind, dep_made, deps_of_tree}
-use Rattle.fab_nue.proofs.Growing.{same_or_other}
+use Rattle.fab_nue.proofs.Searching.Growing.{same_or_other}
 use Rattle.fab_tables.proofs.Paths.TreeWalks.{next_below}
-use Rattle.fab_nue.proofs.SearchTrees.{LeadsTree, settled_on, unsettled_none}
-use Rattle.fab_nue.proofs.Settling.{IsLeaf, gives_it, leaves_others}
+use Rattle.fab_nue.proofs.Searching.SearchTrees.{LeadsTree, settled_on, unsettled_none}
+use Rattle.fab_nue.proofs.Searching.Settling.{IsLeaf, gives_it, leaves_others}
 
 -- ---- elements
 

@@ -14,7 +14,7 @@ use Rattle.fab_escape.specs.Laws.{EscapeTreeIsTree}
 use Rattle.fab_nue.specs.Kept.{old_level, CanStay, KeepsLevel}
 use Rattle.fab_nue.specs.NuePlan.{DependsToEscapeIn, IsNueLevel, IsLaying, IsNuePlan}
 use Rattle.fab_nue.specs.Laws.{NueIsCertified}
-use Rattle.fab_nue.proofs.Reaching.{home_below, kept_stays, laying_reaches}
+use Rattle.fab_nue.proofs.Laying.Reaching.{home_below, kept_stays, laying_reaches}
 
 -- a level below the count has the lane of its number
 pub level_of_count : (count n : ℕ) → n < count → lane_of_level count n ≡ n

@@ -31,13 +31,13 @@ use Rattle.fab_escape.specs.Laws.{OneForest, EscapeTreeIsTree, EscapeNumbersRise
 use Rattle.fab_nue.specs.Kept.{old_level, old_lane, DependsOnOldRoute, DependsOnKept, KeepsLevel, CanStay, smaller}
 use Rattle.fab_nue.specs.NuePlan.{DependsToEscapeIn, DependsOnOld, IsInUse, IsNueLevel, IsLaying}
 use Rattle.fab_nue.specs.Laws.{NueKeepsItself}
-use Rattle.fab_nue.proofs.Choosing.{contains_decided}
-use Rattle.fab_nue.proofs.Members.{first_or_later, same_members}
-use Rattle.fab_nue.proofs.KeptLists.{from_smaller}
-use Rattle.fab_nue.proofs.InUse.{all_acyclic}
-use Rattle.fab_nue.proofs.Reaching.{EscapeTreesAre, kept_stays, kept_route, laying_reaches}
-use Rattle.fab_nue.proofs.LaidRoutes.{laid_depends}
-use Rattle.fab_nue.proofs.CertifiedPlan.{level_of_count, nue_level_below, one_nue_level}
+use Rattle.fab_nue.proofs.Searching.Choosing.{contains_decided}
+use Rattle.fab_nue.proofs.Laying.Members.{first_or_later, same_members}
+use Rattle.fab_nue.proofs.Laying.KeptLists.{from_smaller}
+use Rattle.fab_nue.proofs.Laying.InUse.{all_acyclic}
+use Rattle.fab_nue.proofs.Laying.Reaching.{EscapeTreesAre, kept_stays, kept_route, laying_reaches}
+use Rattle.fab_nue.proofs.Laying.LaidRoutes.{laid_depends}
+use Rattle.fab_nue.proofs.Plans.CertifiedPlan.{level_of_count, nue_level_below, one_nue_level}
 
 -- ---- switches of a route
 

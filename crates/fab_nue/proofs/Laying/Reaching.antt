@@ -23,11 +23,11 @@ use Rattle.fab_escape.specs.EscapeSet.{home}
 use Rattle.fab_nue.specs.Search.{ComesTo}
 use Rattle.fab_nue.specs.Kept.{AreKept, CanStay, smaller}
 use Rattle.fab_nue.specs.NuePlan.{DependsToEscapeIn, IsLaid, IsLaidTree, IsPortInTree, IsLaying}
-use Rattle.fab_nue.proofs.Growing.{same_or_other}
-use Rattle.fab_nue.proofs.Choosing.{contains_decided}
+use Rattle.fab_nue.proofs.Searching.Growing.{same_or_other}
+use Rattle.fab_nue.proofs.Searching.Choosing.{contains_decided}
 use Rattle.fab_tables.proofs.Paths.TreeWalks.{walk_of_next}
-use Rattle.fab_nue.proofs.SearchTrees.{empty_leads_tree}
-use Rattle.fab_nue.proofs.Runs.{run_leads, step_acyclic}
+use Rattle.fab_nue.proofs.Searching.SearchTrees.{empty_leads_tree}
+use Rattle.fab_nue.proofs.Searching.Runs.{run_leads, step_acyclic}
 use Rattle.fab_tables.proofs.Paths.SameRoutes.{connected_routes_same}
 
 -- whatever is in use, the trees of a run are trees
