@@ -1,7 +1,7 @@
 //! A heap of the channels that a search may take next, the one whose way weighs least first.
 //!
-//! Its room is made before the search, so that a search takes no memory. For n choices `push` and `pop` take O(log n) time; memory: 16 bytes
-//! for each choice that there is room for.
+//! Its room is made before the search, so that a search takes no memory. With n choices in it `push` and `pop` take
+//! O(log n) time; its memory is that of as many choices as there is room for.
 ghost use Rattle.std.specs.Prelude.{◌≡◌, ◌<◌, [], length, IfOk, MatchOption};
 ghost use Rattle.fab_nue.specs.Choices.{GainsChoice, LosesLeast};
 

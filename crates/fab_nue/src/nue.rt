@@ -1,3 +1,6 @@
+//! Plans of Nue, and the lane in which each LID is laid.
+//!
+//! Source: Domke, Hoefler and Matsuoka, "Routing on the Dependency Graph".
 ghost use Rattle.std.specs.Prelude.{◌≡◌, ◌<◌, ◌≤◌, Contains};
 ghost use Rattle.fab_model.specs.Topology.{lids_of};
 ghost use Rattle.fab_escape.specs.EscapeSet.{home as home_lane};

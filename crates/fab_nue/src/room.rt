@@ -1,4 +1,6 @@
 //! The working room of searches. It is made once for a fabric, so that the searches that follow take no memory.
+//!
+//! Memory: a weight for each switch, and a choice for each channel.
 ghost use Rattle.std.specs.Prelude.{◌≡◌, length, IfOk};
 
 use crate::choices::Choices;

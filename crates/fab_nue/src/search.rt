@@ -1,3 +1,4 @@
+//! The guarded search for the channels towards one destination, and how it ends.
 /// How a search ends.
 #[derive(Clone, Copy, Debug, PartialEq, Eq)]
 pub enum Searched {
