@@ -1,0 +1,4 @@
+-- The heap of choices, and the candidates that stand in it.
+pub mod HeapOrder
+pub mod Counts
+pub mod Heaping

@@ -1,0 +1,11 @@
+-- LIDs that are kept and laid, what is in use, and the weights.
+pub mod Members
+pub mod KeptLists
+pub mod KeepingLids
+pub mod LidPlaces
+pub mod InUse
+pub mod Reaching
+pub mod LaidRoutes
+pub mod Carrying
+pub mod LayingSteps
+pub mod Weighing

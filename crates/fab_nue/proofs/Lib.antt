@@ -1,0 +1,5 @@
+pub mod Examples
+pub mod Searching
+pub mod Heaps
+pub mod Laying
+pub mod Plans

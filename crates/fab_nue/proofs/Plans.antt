@@ -1,0 +1,5 @@
+-- The plan of Nue.
+pub mod CertifiedPlan
+pub mod OnePlan
+pub mod KeepingItself
+pub mod OverEscape

@@ -1,0 +1,12 @@
+-- Steps, runs and ends of the search, and its trees.
+pub mod Growing
+pub mod Swapping
+pub mod SearchTrees
+pub mod Settling
+pub mod Turning
+pub mod Measure
+pub mod Runs
+pub mod Listing
+pub mod Choosing
+pub mod Ending
+pub mod SameSearch
