@@ -1,0 +1,11 @@
+//! Layered shortest path routing (LASH): pairs of switches go to lanes on which no walk of dependencies is closed.
+#![tactic(auto)]
+
+mod laws;
+mod layered;
+
+pub use laws::{
+    lanes_are_acyclic, layered_is_certified, layered_or_refused, one_layered_plan, one_layering,
+    one_needs_lane,
+};
+pub use layered::{LashFault, Layered};
