@@ -4,3 +4,6 @@ pub mod OneLayering
 pub mod LayeredPlans
 pub mod LayersAcyclic
 pub mod LaneSteps
+pub mod Followers
+pub mod OwnLids
+pub mod Tries

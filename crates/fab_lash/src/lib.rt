@@ -3,6 +3,8 @@
 
 mod laws;
 mod layered;
+mod pair_routes;
+mod trying;
 
 pub use laws::{
     lanes_are_acyclic, layered_is_certified, layered_or_refused, one_layered_plan, one_layering,
