@@ -7,3 +7,4 @@ pub mod LaneSteps
 pub mod Followers
 pub mod OwnLids
 pub mod Tries
+pub mod Places

@@ -4,6 +4,7 @@
 mod laws;
 mod layered;
 mod pair_routes;
+mod placing;
 mod trying;
 
 pub use laws::{
