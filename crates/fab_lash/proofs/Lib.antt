@@ -8,3 +8,4 @@ pub mod Followers
 pub mod OwnLids
 pub mod Tries
 pub mod Places
+pub mod PlanNumbers
