@@ -9,3 +9,4 @@ pub mod OwnLids
 pub mod Tries
 pub mod Places
 pub mod PlanNumbers
+pub mod PairChannels

@@ -1,8 +1,14 @@
 -- Where the dependencies of a pair go.
 use Rattle.std.specs.Prelude.{◌≡◌, ◌≢◌, ℕ, ◌<◌, ◌++◌, Bool, true, false, List, [], length, map, take, All, Some, slice_get, option_map, unwrap_or}
 use Rattle.fab_graph.specs.Walks.{HasClosedWalk, IsAcyclic}
+use Rattle.fab_model.specs.Topology.{Topology}
+use Rattle.fab_tables.specs.Entries.{Entries}
 use Rattle.fab_depgraph.specs.declared.dep.Dep.{Dep}
 use Rattle.fab_depgraph.specs.Listed.{Dependencies, IsListed, IsWithin}
+use Rattle.fab_lash.specs.declared.layered.LashFault.{LashFault}
+use Rattle.fab_lash.specs.declared.layered.LashFault.TheVariants.{NeedsLane, Memory}
+use Rattle.fab_lash.specs.Pairs.{IsPair}
+use Rattle.fab_lash.specs.Followers.{pair_dependencies}
 
 -- what the arena of a lane lists
 abbrev pub listed_in : List Dependencies → ℕ → List Dep
@@ -46,3 +52,13 @@ pub record IsPlaced (old new : List Dependencies) (deps : List Dep) (lane : ℕ)
 -- no lane takes them
 abbrev pub IsNowhere : List Dependencies → List Dep → Type 0
 IsNowhere old deps = (lane : ℕ) → lane < length old → Refuses (listed_in old lane) deps
+
+-- the dependencies of a pair are in the first lane that takes them, and where the switches are no pair nothing changed
+pub record IsPlacedPair (t : Topology) (e : Entries) (low high : ℕ) (old new : List Dependencies) (lane : ℕ) : Type 0 where
+  pub placed : IsPair t low high → IsPlaced old new (pair_dependencies t e low high) lane
+  pub other : ¬ IsPair t low high → new ≡ old
+
+-- no lane takes those of the pair
+abbrev pub FitsNowhere : Topology → Entries → ℕ → ℕ → List Dependencies → LashFault → Type 0
+FitsNowhere t e low high old (NeedsLane one other) = (one.0 ≡ low) × (other.0 ≡ high) × IsPair t low high × IsNowhere old (pair_dependencies t e low high)
+FitsNowhere t e low high old (Memory refused) = Unit {0}

@@ -21,3 +21,14 @@ pub enum LashFault {
     #[error("out of memory")]
     Memory(AllocError),
 }
+
+impl From<AllocError> for LashFault {
+    ghost use Rattle.std.specs.Prelude.{◌≡◌};
+    ghost use Rattle.fab_lash.specs.declared.layered.LashFault.TheVariants.{Memory};
+
+    ghost from_gives = { λ refused fault. fault ≡ Memory refused };
+
+    fn from(refused: AllocError) -> LashFault {
+        LashFault::Memory(refused)
+    }
+}

@@ -3,6 +3,7 @@
 
 mod laws;
 mod layered;
+mod layering;
 mod numbered;
 mod pair_routes;
 mod placing;
