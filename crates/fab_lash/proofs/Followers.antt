@@ -1,5 +1,5 @@
 -- The dependencies of a route come to a list hop after hop.
-use Rattle.std.proofs.Common.{◌≡◌, ℕ, zero, suc, ◌++◌, ◌⊎◌, inl, inr, List, [], ◌∷◌, refl, sym, ◌∙◌, ap, subst, arith, Some, None, Option}
+use Rattle.std.proofs.Common.{◌≡◌, ℕ, zero, suc, ◌++◌, ◌⊎◌, inl, inr, List, [], ◌∷◌, sym, ◌∙◌, ap, subst, arith, Some, None, Option}
 use Rattle.std.proofs.lemmas.List.{append_assoc}
 use Rattle.std.specs.Prelude.{slice_get, Contains}
 use Rattle.std.proofs.lemmas.List.Elements.{Contains-append_left, Contains-append_right, Contains-append_cases}
@@ -12,7 +12,7 @@ use Rattle.fab_tables.specs.Entries.{Entries}
 use Rattle.fab_tables.specs.VirtualChannels.{Follow}
 use Rattle.fab_depgraph.specs.declared.dep.Dep.{Dep}
 use Rattle.fab_depgraph.specs.Listed.{dep_of, IsListed}
-use Rattle.fab_lash.specs.Pairs.{FollowOnRoute, DependsOnPair}
+use Rattle.fab_lash.specs.Pairs.{DependsOnPair}
 use Rattle.fab_lash.specs.Followers.{followers, followers_between, pair_dependencies}
 
 -- the followers that are left, where a channel came before

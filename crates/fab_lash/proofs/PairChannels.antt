@@ -1,19 +1,16 @@
 -- The channels of a pair's dependencies are channels of the fabric.
-use Rattle.std.proofs.Common.{◌≡◌, ℕ, suc, ◌<◌, ◌++◌, List, length, All, sym, subst, arith}
-use Rattle.std.proofs.lemmas.List.Elements.{All-contains}
+use Rattle.std.proofs.Common.{◌≡◌, ℕ, suc, ◌<◌, List, length, All, sym, subst, arith}
 use Rattle.fab_model.specs.Topology.{Topology}
 use Rattle.fab_model.specs.WellFormed.{IsWellFormed}
 use Rattle.fab_tables.specs.Entries.{Entries}
-use Rattle.fab_tables.specs.Route.{route}
-use Rattle.fab_tables.specs.VirtualChannels.{Follow}
 use Rattle.fab_tables.proofs.Paths.Routes.{channel_there}
 use Rattle.fab_depgraph.specs.declared.dep.Dep.{Dep}
-use Rattle.fab_depgraph.specs.Listed.{Dependencies, IsWithin, dep_of}
+use Rattle.fab_depgraph.specs.Listed.{Dependencies, IsWithin}
 use Rattle.fab_lash.specs.Pairs.{own_lid, DependsOnPair}
 use Rattle.fab_lash.specs.Followers.{pair_dependencies}
 use Rattle.fab_lash.specs.Placing.{channel_counts, FitInto}
 use Rattle.fab_lash.proofs.Followers.{lists_pair}
-use Rattle.std.specs.Prelude.{Contains, slice_index_or, ◌⊎◌}
+use Rattle.std.specs.Prelude.{slice_index_or}
 use Rattle.std.proofs.Common.{inl, inr, refl, zero, ◌∷◌, []}
 
 within_of : (t : Topology) (e : Entries) (low high : ℕ) → IsWellFormed t → (c d : ℕ) → DependsOnPair t e low high c d → (c < length t.channels) × (d < length t.channels)

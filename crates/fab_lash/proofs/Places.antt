@@ -1,5 +1,5 @@
 -- A try in one lane leaves the other lanes as they were.
-use Rattle.std.proofs.Common.{◌≡◌, ◌≢◌, ℕ, zero, suc, ◌+◌, ◌<◌, ◌++◌, ◌∷◌, [], Bool, true, false, List, length, map, All, refl, sym, ◌∙◌, ap, subst, arith, Some, inl, inr}
+use Rattle.std.proofs.Common.{◌≡◌, ◌≢◌, ℕ, zero, suc, ◌+◌, ◌<◌, ◌++◌, ◌∷◌, [], Bool, true, false, List, length, All, refl, sym, ◌∙◌, ap, subst, arith, Some, inl, inr}
 use Rattle.std.specs.Prelude.{slice_get, slice_set}
 use Rattle.std.proofs.lemmas.Bool.{cases_eq, cases_lt}
 use Rattle.std.proofs.lemmas.Option.{same_Some, none-some}
@@ -9,7 +9,7 @@ use Rattle.fab_tables.proofs.Verdicts.CertifiedLaws.{contains_of}
 use Rattle.fab_depgraph.specs.declared.dep.Dep.{Dep}
 use Rattle.fab_depgraph.specs.Listed.{Dependencies, IsListed, IsWithin}
 use Rattle.fab_lash.specs.Trying.{TakesAll, TakesNone}
-use Rattle.fab_lash.specs.Placing.{listed_in, channel_counts, FitInto, Refuses, Takes, KeepsOthers, IsTried, IsPlaced}
+use Rattle.fab_lash.specs.Placing.{listed_in, channel_counts, FitInto, Refuses, Takes, IsTried, IsPlaced}
 
 pub listed_at : (used : List Dependencies) (lane : ℕ) (g : Dependencies) → slice_get used lane ≡ Some g → listed_in used lane ≡ g.listed
 listed_at [] lane g is = absurd (none-some g is)

@@ -1,5 +1,5 @@
 -- Lanes with the engines' maps whose levels are layers, before their numbers are written.
-use Rattle.std.specs.Prelude.{◌≡◌, ℕ, List}
+use Rattle.std.specs.Prelude.{ℕ, List}
 use Rattle.fab_model.specs.Topology.{Topology}
 use Rattle.fab_tables.specs.Entries.{Entries}
 use Rattle.fab_tables.specs.Fit.{LanesFit}

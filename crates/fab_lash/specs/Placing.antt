@@ -1,5 +1,5 @@
 -- Where the dependencies of a pair go.
-use Rattle.std.specs.Prelude.{◌≡◌, ◌≢◌, ℕ, ◌<◌, ◌++◌, Bool, true, false, List, [], length, map, take, All, Some, slice_get, option_map, unwrap_or}
+use Rattle.std.specs.Prelude.{◌≡◌, ◌≢◌, ℕ, ◌<◌, ◌++◌, Bool, true, false, List, [], length, map, take, All, slice_get, option_map, unwrap_or}
 use Rattle.fab_graph.specs.Walks.{HasClosedWalk, IsAcyclic}
 use Rattle.fab_model.specs.Topology.{Topology}
 use Rattle.fab_tables.specs.Entries.{Entries}

@@ -1,6 +1,5 @@
-use Rattle.std.proofs.Common.{◌≡◌, ◌++◌, ◌<◌, length}
+use Rattle.std.proofs.Common.{◌≡◌, ◌++◌}
 use Rattle.fab_tables.specs.Route.{route}
-use Rattle.fab_tables.proofs.Paths.Ways.{IsOnWay}
 use Rattle.fab_lash.specs.Followers.{followers}
 use Rattle.fab_lash.proofs.Followers.{followers_after}
 use Rattle.fab_lash.proofs.pair_routes.push_route.Given as goal
