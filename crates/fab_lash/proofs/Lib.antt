@@ -10,3 +10,4 @@ pub mod Tries
 pub mod Places
 pub mod PlanNumbers
 pub mod PairChannels
+pub mod LaneStates
