@@ -1,0 +1,46 @@
+-- What stands before a pair is placed, and what a refusal says then.
+use Rattle.std.proofs.Common.{◌≡◌, ℕ, zero, suc, ◌<◌, ◌++◌, ◌⊎◌, inl, inr, List, [], ◌∷◌, length, take, subst, arith}
+use Rattle.std.specs.Prelude.{Contains}
+use Rattle.std.proofs.lemmas.List.Elements.{Contains-append_cases}
+use Rattle.fab_graph.specs.Walks.{SameGraph}
+use Rattle.fab_graph.proofs.Members.{first, later, first_or_later}
+use Rattle.fab_model.specs.Topology.{Topology}
+use Rattle.fab_tables.specs.Entries.{Entries}
+use Rattle.fab_depgraph.specs.declared.dep.Dep.{Dep}
+use Rattle.fab_depgraph.specs.Listed.{Dependencies, IsListed, dep_of}
+use Rattle.fab_lash.specs.Pairs.{IsPair, ComesBefore, DependsOnPair}
+use Rattle.fab_lash.specs.Followers.{pair_dependencies}
+use Rattle.fab_lash.specs.Layerings.{DependsEarlier, FitsLane, HasLayer, NeedsLane}
+use Rattle.fab_lash.specs.Placing.{listed_in, Refuses, IsNowhere}
+use Rattle.fab_lash.proofs.Followers.{lists_pair}
+use Rattle.fab_lash.proofs.LaneSteps.{try_fails}
+
+-- earlier pairs have their layers, and each lane lists the dependencies of those whose layer it is
+pub record AreLayersBefore (t : Topology) (e : Entries) (count : ℕ) (layer : ℕ → ℕ → ℕ) (used : List Dependencies) (low high : ℕ) : Type 0 where
+  pub lanes : length used ≡ count
+  pub earlier : (a b : ℕ) → IsPair t a b → ComesBefore a b low high → HasLayer t e count layer a b
+  pub lists : (lane : ℕ) → SameGraph (IsListed (listed_in used lane)) (λ (c d : ℕ). DependsEarlier t e layer lane low high c d)
+
+of_take : (xs : List Dep) (n : ℕ) (x : Dep) → Contains (take n xs) x → Contains xs x
+of_take xs zero x has = absurd (omega (arith, has.1))
+of_take [] (suc n) x has = absurd (omega (arith, has.1))
+of_take (y ∷ ys) (suc n) x has = elim (first_or_later y (take n ys) x has) [ inl here ↦ subst (λ z. Contains (y ∷ ys) z) here (first y ys) | inr there ↦ later y ys x (of_take ys n x there) ]
+
+module _ (t : Topology) (e : Entries) (count : ℕ) (layer : ℕ → ℕ → ℕ) (used : List Dependencies) (low high : ℕ) (before : AreLayersBefore t e count layer used low high) where
+  pub refuses_not_fits : (lane : ℕ) → Refuses (listed_in used lane) (pair_dependencies t e low high) → ¬ FitsLane t e layer low high lane
+  refuses_not_fits lane r =
+      try_fails t e layer lane low high (IsListed (listed_in used lane)) (before.lists lane) (IsListed (listed_in used lane ++ take r.0 (pair_dependencies t e low high)))
+      (λ c d x. some c d (Contains-append_cases (listed_in used lane) (take r.0 (pair_dependencies t e low high)) (dep_of c d) x)) r.1
+    where
+      some : (c d : ℕ) → Contains (listed_in used lane) (dep_of c d) ⊎ Contains (take r.0 (pair_dependencies t e low high)) (dep_of c d) → DependsOnPair t e low high c d ⊎ IsListed (listed_in used lane) c d
+      some c d (inl old) = inr old
+      some c d (inr new) = inl ((lists_pair t e low high c d).0 (of_take (pair_dependencies t e low high) r.0 (dep_of c d) new))
+
+  -- so a pair that no lane takes is the first to need another one
+  pub nowhere_needs : IsPair t low high → IsNowhere used (pair_dependencies t e low high) → NeedsLane t e count low high
+  nowhere_needs pair nowhere = record {
+    pair = pair;
+    layer = layer;
+    earlier = before.earlier;
+    none = λ lane less. refuses_not_fits lane (nowhere lane (omega (arith, less, before.lanes)));
+  }

@@ -1,0 +1,13 @@
+pub mod Examples
+pub mod LaneLaws
+pub mod OneLayering
+pub mod LayeredPlans
+pub mod LayersAcyclic
+pub mod LaneSteps
+pub mod Followers
+pub mod OwnLids
+pub mod Tries
+pub mod Places
+pub mod PlanNumbers
+pub mod PairChannels
+pub mod LaneStates

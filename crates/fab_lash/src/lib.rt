@@ -1,0 +1,16 @@
+//! Layered shortest path routing (LASH): pairs of switches go to lanes on which no walk of dependencies is closed.
+#![tactic(auto)]
+
+mod laws;
+mod layered;
+mod layering;
+mod numbered;
+mod pair_routes;
+mod placing;
+mod trying;
+
+pub use laws::{
+    lanes_are_acyclic, layered_is_certified, layered_or_refused, one_layered_plan, one_layering,
+    one_needs_lane,
+};
+pub use layered::{LashFault, Layered};
