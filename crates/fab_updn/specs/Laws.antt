@@ -46,3 +46,7 @@ OneRefusedPair = (t : Topology) (named : List ℕ) (from to a b : ℕ) → IsRef
 -- and no plan beside it
 abbrev pub PlanOrRefusal : Type 0
 PlanOrRefusal = (t : Topology) (named : List ℕ) (p : Plan) (from to : ℕ) → IsUpDownPlan t named p → ¬ IsRefusedPair t named from to
+
+-- a fabric with named roots has one plan
+abbrev pub OneUpDownPlan : Type 0
+OneUpDownPlan = (t : Topology) (named : List ℕ) (p q : Plan) → IsWellFormed t → IsUpDownPlan t named p → IsUpDownPlan t named q → p ≡ q
