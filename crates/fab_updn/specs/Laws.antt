@@ -1,9 +1,9 @@
 -- Laws of up/down routing. Those that take any ranks hold of the right ones too.
-use Rattle.std.specs.Prelude.{◌≡◌, ℕ, ◌⊎◌, List, Some, slice_get}
+use Rattle.std.specs.Prelude.{◌≡◌, ℕ, ◌<◌, ◌⊎◌, List, length, All, Some, slice_get}
 use Rattle.fab_graph.specs.Walks.{IsAcyclic}
 use Rattle.fab_model.specs.declared.rows.ChannelRow.{ChannelRow}
 use Rattle.fab_model.specs.Topology.{Topology}
-use Rattle.fab_model.specs.WellFormed.{IsWellFormed}
+use Rattle.fab_model.specs.WellFormed.{IsWellFormed, IsFabric}
 use Rattle.fab_model.specs.Connected.{IsConnectedTo}
 use Rattle.fab_tables.specs.declared.plan.Plan.{Plan}
 use Rattle.fab_tables.specs.Entries.{Entries}
@@ -50,3 +50,8 @@ PlanOrRefusal = (t : Topology) (named : List ℕ) (p : Plan) (from to : ℕ) →
 -- a fabric with named roots has one plan
 abbrev pub OneUpDownPlan : Type 0
 OneUpDownPlan = (t : Topology) (named : List ℕ) (p q : Plan) → IsWellFormed t → IsUpDownPlan t named p → IsUpDownPlan t named q → p ≡ q
+
+-- and where the roots are switches of it, it has a plan or a refused pair
+abbrev pub PlanOrRefusalExists : Type 0
+PlanOrRefusalExists = (t : Topology) (named : List ℕ) → IsFabric t → All (λ root. root < length t.switches) named →
+    ((p : Plan) × IsUpDownPlan t named p) ⊎ ((from to : ℕ) × IsRefusedPair t named from to)

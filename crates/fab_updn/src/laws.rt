@@ -1,5 +1,5 @@
 //! Laws of up/down routing. Each function is empty; what it ensures is the law.
-ghost use Rattle.fab_updn.specs.Laws.{OneRank, OneListOfRanks, UpDownReaches, NoDownThenUp, LegalTurnsAreAcyclic, OneRefusedPair, PlanOrRefusal, OneUpDownPlan};
+ghost use Rattle.fab_updn.specs.Laws.{OneRank, OneListOfRanks, UpDownReaches, NoDownThenUp, LegalTurnsAreAcyclic, OneRefusedPair, PlanOrRefusal, OneUpDownPlan, PlanOrRefusalExists};
 
 /// A switch has one rank at most.
 pub fn one_rank()
@@ -39,4 +39,9 @@ pub fn plan_or_refusal()
 /// A fabric with named roots has one plan at most.
 pub fn one_up_down_plan()
     ensures { OneUpDownPlan }
+{}
+
+/// A fabric with named roots has a plan or a refused pair.
+pub fn plan_or_refusal_exists()
+    ensures { PlanOrRefusalExists }
 {}

@@ -41,7 +41,7 @@ pub is_number : (o : Option ℕ) (n : ℕ) → Decided (o ≡ Some n)
 is_number None n = inr (λ e. none-some n e)
 is_number (Some m) n = equivalent (m ≡ n) (Some m ≡ Some n) (λ e. ap (λ k. Some k) e) (λ e. same_Some m n e) (equal m n)
 
-smaller_decided : (ranks : List ℕ) (a b : ℕ) → Decided (HasSmallerKey ranks a b)
+pub smaller_decided : (ranks : List ℕ) (a b : ℕ) → Decided (HasSmallerKey ranks a b)
 smaller_decided ranks a b = either _ _ (below_decided _ _) (both _ _ (equal _ _) (below_decided a b))
 
 goes_decided : (direction : Direction) (ranks : List ℕ) (row : ChannelRow) → Decided (Goes direction ranks row)
