@@ -1,5 +1,5 @@
 -- Laws of up/down routing. Those that take any ranks hold of the right ones too.
-use Rattle.std.specs.Prelude.{◌≡◌, ℕ, ◌<◌, ◌⊎◌, List, length, All, Some, slice_get}
+use Rattle.std.specs.Prelude.{◌≡◌, ℕ, ◌<◌, ◌⊎◌, List, [], length, All, Some, slice_get}
 use Rattle.fab_graph.specs.Walks.{IsAcyclic}
 use Rattle.fab_model.specs.declared.rows.ChannelRow.{ChannelRow}
 use Rattle.fab_model.specs.Topology.{Topology}
@@ -55,3 +55,7 @@ OneUpDownPlan = (t : Topology) (named : List ℕ) (p q : Plan) → IsWellFormed 
 abbrev pub PlanOrRefusalExists : Type 0
 PlanOrRefusalExists = (t : Topology) (named : List ℕ) → IsFabric t → All (λ root. root < length t.switches) named →
     ((p : Plan) × IsUpDownPlan t named p) ⊎ ((from to : ℕ) × IsRefusedPair t named from to)
+
+-- where no root is named, no pair is refused
+abbrev pub UnnamedNeverRefused : Type 0
+UnnamedNeverRefused = (t : Topology) (from to : ℕ) → IsWellFormed t → ¬ IsRefusedPair t [] from to
