@@ -47,7 +47,7 @@ OneRefusedPair = (t : Topology) (named : List ℕ) (from to a b : ℕ) → IsRef
 abbrev pub PlanOrRefusal : Type 0
 PlanOrRefusal = (t : Topology) (named : List ℕ) (p : Plan) (from to : ℕ) → IsUpDownPlan t named p → ¬ IsRefusedPair t named from to
 
--- a fabric with named roots has one plan
+-- a fabric with named roots has one plan at most
 abbrev pub OneUpDownPlan : Type 0
 OneUpDownPlan = (t : Topology) (named : List ℕ) (p q : Plan) → IsWellFormed t → IsUpDownPlan t named p → IsUpDownPlan t named q → p ≡ q
 
