@@ -1,4 +1,5 @@
--- Every fabric has a Min Hop table and a DOR table. A table is made LID by LID, the ports of a LID from those of the smaller ones.
+-- Every fabric has a Min Hop table and a DOR table, and balanced tables over any eligible ports. A table is made LID by LID, the ports of a LID from
+-- those of the smaller ones.
 use Rattle.std.proofs.Common.{◌≡◌, ◌≢◌, ℕ, zero, suc, ◌*◌, ◌/◌, ◌%◌, ◌<◌, ◌≤◌, inl, inr, Bool, true, false, cond, List, [], ◌∷◌, length, map, Option, Some, None, refl, sym, ◌∙◌, ap, subst, arith, Contains}
 use Rattle.std.specs.Prelude.{slice_get, slice_index_or, position, find, option_map, count_by, nat_lt, unwrap_or, ◌&&◌, ◌==◌}
 use Rattle.std.specs.List.{range_with_len}
@@ -22,7 +23,7 @@ use Rattle.fab_model.specs.WellFormed.{IsWellFormed, IsFabric}
 use Rattle.fab_model.proofs.Finds.{channels_are_found}
 use Rattle.fab_tables.specs.Entries.{Entries, index_of, cell, port_in_column, entry}
 use Rattle.fab_tables.specs.Fit.{EntriesFit}
-use Rattle.fab_tables.specs.FixedEntries.{HasFixedEntries, IsChosen}
+use Rattle.fab_tables.specs.FixedEntries.{HasFixedEntries, HasChosenEntries, IsChosen}
 use Rattle.fab_tables.specs.Route.{tip, tip_of_row}
 use Rattle.fab_tables.proofs.Joined.Ascending.{lids_ascend, lids_fit}
 use Rattle.fab_tables.proofs.Joined.ConnectedDecided.{connected_decided, connected_to_decided}
@@ -33,7 +34,7 @@ use Rattle.fab_hops.specs.HopCounts.{IsHopCount}
 use Rattle.fab_hops.proofs.HopLaws.{one_hop_count}
 use Rattle.fab_hops.proofs.HopWalks.{connected_have_count}
 use Rattle.fab_balance.specs.Eligible.{LeadsNearer}
-use Rattle.fab_balance.specs.MinHop.{AreMinHopTables, AreDorTables}
+use Rattle.fab_balance.specs.Loads.{IsBalancedChoice}
 use Rattle.fab_balance.specs.Laws.{MinHopTableExists, DorTableExists}
 
 -- ---- tables of given ports, by switch and LID
@@ -121,18 +122,32 @@ some_nearer_port t s to n good count =
 low_port : (t : Topology) (s to port : ℕ) → IsWellFormed t → LeadsNearer t s to port → port < 256
 low_port t s to port good x = omega (arith, channel_port_small t good s port x.channel x.leaves)
 
-least_nearer : (t : Topology) (load : ℕ → ℕ) (s to n : ℕ) → IsWellFormed t → IsHopCount t s to (suc n) → LeastChoice load (λ port. LeadsNearer t s to port) 256
-least_nearer t load s to n good count = elim (least_choice load (λ port. LeadsNearer t s to port) (nearer_decided t s to n count) 256) [
-  | inl found ↦ found
-  | inr none ↦ (let some = some_nearer_port t s to n good count in absurd (none some.0 (low_port t s to some.0 good some.1) some.1))
-]
+-- Ports that are eligible at a switch, on the way to another one: they are small, and where the two are connected, they are decided and one is there.
+pub record AreEligible (t : Topology) (Eligible : ℕ → ℕ → ℕ → Type 0) : Type 0 where
+  pub low : (s to port : ℕ) → Eligible s to port → port < 256
+  pub decided : (s to : ℕ) → AreConnected t s to → s ≢ to → (port : ℕ) → Decided (Eligible s to port)
+  pub some : (s to : ℕ) → AreConnected t s to → s ≢ to → (port : ℕ) × Eligible s to port
 
-best_port : (t : Topology) (load : ℕ → ℕ) (s to : ℕ) → IsWellFormed t → AreConnected t s to → s ≢ to → LeastChoice load (λ port. LeadsNearer t s to port) 256
-best_port t load s to good joined other = by (connected_have_count t s to joined).0 (connected_have_count t s to joined).1
+-- those that lead nearer are
+nearer_eligible : (t : Topology) → IsWellFormed t → AreEligible t (λ s to port. LeadsNearer t s to port)
+nearer_eligible t good = record {
+  low = λ s to port x. low_port t s to port good x;
+  decided = λ s to joined other port. let n = one_more s to joined other in nearer_decided t s to n.0 n.1 port;
+  some = λ s to joined other. let n = one_more s to joined other in some_nearer_port t s to n.0 good n.1;
+}
   where
-    by : (n : ℕ) → IsHopCount t s to n → LeastChoice load (λ port. LeadsNearer t s to port) 256
-    by zero x = absurd (other x.holds)
-    by (suc n) x = least_nearer t load s to n good x
+    one_more : (s to : ℕ) → AreConnected t s to → s ≢ to → (n : ℕ) × IsHopCount t s to (suc n)
+    one_more s to joined other = by (connected_have_count t s to joined).0 (connected_have_count t s to joined).1
+      where
+        by : (n : ℕ) → IsHopCount t s to n → (n : ℕ) × IsHopCount t s to (suc n)
+        by zero x = absurd (other x.holds)
+        by (suc n) x = (n, x)
+
+best_port : (t : Topology) (Eligible : ℕ → ℕ → ℕ → Type 0) → AreEligible t Eligible → (load : ℕ → ℕ) (s to : ℕ) → AreConnected t s to → s ≢ to → LeastChoice load (λ port. Eligible s to port) 256
+best_port t Eligible are load s to joined other = elim (least_choice load (λ port. Eligible s to port) (are.decided s to joined other) 256) [
+  | inl found ↦ found
+  | inr none ↦ (let some = are.some s to joined other in absurd (none some.0 (are.low s to some.0 some.1) some.1))
+]
 
 -- ---- ports of places
 
@@ -177,10 +192,10 @@ pick : {P : Type 0} → Decided P → ℕ → ℕ → ℕ
 pick (inl p) a b = a
 pick (inr refuted) a b = b
 
-module _ (t : Topology) (fabric : IsFabric t) (load : Load) where
+module _ (t : Topology) (fabric : IsFabric t) (Eligible : ℕ → ℕ → ℕ → Type 0) (are : AreEligible t Eligible) (load : Load) where
   own_or : (g : ℕ → ℕ → ℕ) (s lid : ℕ) (c : IsConnectedTo t s lid) → Decided (s ≡ c.0.switch.0) → ℕ
   own_or g s lid c (inl same) = c.0.port
-  own_or g s lid c (inr other) = (best_port t (load g s lid) s c.0.switch.0 fabric.rows c.2 other).0
+  own_or g s lid c (inr other) = (best_port t Eligible are (load g s lid) s c.0.switch.0 c.2 other).0
 
   port_by : (g : ℕ → ℕ → ℕ) (s lid : ℕ) → Decided (IsConnectedTo t s lid) → ℕ
   port_by g s lid (inl c) = own_or g s lid c (equal s c.0.switch.0)
@@ -192,7 +207,7 @@ module _ (t : Topology) (fabric : IsFabric t) (load : Load) where
   own_or_low : (g : ℕ → ℕ → ℕ) (s lid : ℕ) (c : IsConnectedTo t s lid) (d : Decided (s ≡ c.0.switch.0)) → own_or g s lid c d < 256
   unfolding own_or
   own_or_low g s lid c (inl same) = place_port t fabric.rows lid c.0 c.1
-  own_or_low g s lid c (inr other) = (best_port t (load g s lid) s c.0.switch.0 fabric.rows c.2 other).1
+  own_or_low g s lid c (inr other) = (best_port t Eligible are (load g s lid) s c.0.switch.0 c.2 other).1
 
   next_low : (g : ℕ → ℕ → ℕ) (s lid : ℕ) → next g s lid < 256
   unfolding next port_by
@@ -223,18 +238,18 @@ module _ (t : Topology) (fabric : IsFabric t) (load : Load) where
       by (inl c) = own_or_own g place.switch.0 lid c place (same_Some c.0 place (sym c.1 ∙ is)) refl (equal place.switch.0 c.0.switch.0)
       by (inr apart) = absurd (apart (place, is, (0, refl)))
 
-  -- it leads nearer, and comes before all that do
+  -- it is eligible, and comes before all that are
   abbrev IsBest : (ℕ → ℕ) → ℕ → ℕ → ℕ → Type 0
-  IsBest cost s to port = LeadsNearer t s to port × ((other : ℕ) → LeadsNearer t s to other → IsNotAfter cost port other)
+  IsBest cost s to port = Eligible s to port × ((other : ℕ) → Eligible s to other → IsNotAfter cost port other)
 
-  best_is : (cost : ℕ → ℕ) (s to : ℕ) (found : LeastChoice cost (λ port. LeadsNearer t s to port) 256) → IsBest cost s to found.0
-  best_is cost s to found = (found.2, λ other x. found.3 other (low_port t s to other fabric.rows x) x)
+  best_is : (cost : ℕ → ℕ) (s to : ℕ) (found : LeastChoice cost (λ port. Eligible s to port) 256) → IsBest cost s to found.0
+  best_is cost s to found = (found.2, λ other x. found.3 other (are.low s to other x) x)
 
   own_or_chosen : (g : ℕ → ℕ → ℕ) (s lid to : ℕ) (c : IsConnectedTo t s lid) → c.0.switch.0 ≡ to → s ≢ to → (d : Decided (s ≡ c.0.switch.0)) → IsBest (load g s lid) s to (own_or g s lid c d)
   unfolding own_or
   own_or_chosen g s lid to c at other (inl same) = absurd (other (same ∙ at))
   own_or_chosen g s lid to c at other (inr apart) =
-      subst (λ x. IsBest (load g s lid) s x (own_or g s lid c (inr apart))) at (best_is (load g s lid) s c.0.switch.0 (best_port t (load g s lid) s c.0.switch.0 fabric.rows c.2 apart))
+      subst (λ x. IsBest (load g s lid) s x (own_or g s lid c (inr apart))) at (best_is (load g s lid) s c.0.switch.0 (best_port t Eligible are (load g s lid) s c.0.switch.0 c.2 apart))
 
   next_chosen : (g : ℕ → ℕ → ℕ) (s lid to : ℕ) → IsChosen t s lid to → IsBest (load g s lid) s to (next g s lid)
   unfolding next port_by
@@ -288,15 +303,27 @@ module _ (t : Topology) (fabric : IsFabric t) (load : Load) where
 no_load : Load
 no_load g s lid at = 0
 
+abbrev Nearer : Topology → ℕ → ℕ → ℕ → Type 0
+Nearer t s to port = LeadsNearer t s to port
+
+abbrev unloaded : (t : Topology) → IsFabric t → Entries
+unloaded t fabric = tables t fabric (Nearer t) (nearer_eligible t fabric.rows) no_load
+
 pub dor_table_exists : DorTableExists
 unfolding no_load
-dor_table_exists t fabric = (tables t fabric no_load, record { fixed = fixed t fabric no_load; chosen = λ s lid to is. least s lid to (chosen t fabric no_load (λ g h s lid same. refl) s lid to is) })
+dor_table_exists t fabric = (
+  unloaded t fabric,
+  record {
+    fixed = fixed t fabric (Nearer t) (nearer_eligible t fabric.rows) no_load;
+    chosen = λ s lid to is. least s lid to (chosen t fabric (Nearer t) (nearer_eligible t fabric.rows) no_load (λ g h s lid same. refl) s lid to is);
+  },
+)
   where
     by_port : (m n : ℕ) → IsNotAfter (λ p. 0) m n → m ≤ n
     by_port m n (inl less) = absurd (omega (arith, less))
     by_port m n (inr both) = both.1
 
-    least : (s lid to : ℕ) → IsBest t fabric no_load (λ p. 0) s to (entry (tables t fabric no_load) s lid) → IsLeast (λ p. LeadsNearer t s to p) (entry (tables t fabric no_load) s lid)
+    least : (s lid to : ℕ) → IsBest t fabric (Nearer t) (nearer_eligible t fabric.rows) no_load (λ p. 0) s to (entry (unloaded t fabric) s lid) → IsLeast (λ p. LeadsNearer t s to p) (entry (unloaded t fabric) s lid)
     least s lid to best = record { holds = best.0; least = λ other x. by_port _ other (best.1 other x) }
 
 terminal_load : Topology → Load
@@ -314,12 +341,16 @@ unfolding terminal_load
 loads_same t g h s lid same =
     fun_ext (λ port. ap (λ (test : TerminalRow → Bool). count_by test t.terminals) (fun_ext (λ p. same_test lid p.lid.0 (g s p.lid.0) (h s p.lid.0) port (λ low. same p.lid.0 low))))
 
-pub min_hop_table_exists : MinHopTableExists
+-- balanced over any eligible ports
+pub balanced_tables_exist : (t : Topology) → IsFabric t → (Eligible : ℕ → ℕ → ℕ → Type 0) → AreEligible t Eligible → (e : Entries) × HasChosenEntries t e (λ s lid to port. IsBalancedChoice t e s lid (λ p. Eligible s to p) port)
 unfolding terminal_load
-min_hop_table_exists t fabric = (
-  tables t fabric (terminal_load t),
+balanced_tables_exist t fabric Eligible are = (
+  tables t fabric Eligible are (terminal_load t),
   record {
-    fixed = fixed t fabric (terminal_load t);
-    chosen = λ s lid to is. let best = chosen t fabric (terminal_load t) (loads_same t) s lid to is in record { eligible = best.0; least = best.1 };
+    fixed = fixed t fabric Eligible are (terminal_load t);
+    chosen = λ s lid to is. let best = chosen t fabric Eligible are (terminal_load t) (loads_same t) s lid to is in record { eligible = best.0; least = best.1 };
   },
 )
+
+pub min_hop_table_exists : MinHopTableExists
+min_hop_table_exists t fabric = balanced_tables_exist t fabric (Nearer t) (nearer_eligible t fabric.rows)

@@ -20,7 +20,7 @@ module _ (t : Topology) (good : IsWellFormed t) (ranks : List ℕ) (table : List
     λ x. (listed port).1 (port_is_row t good ranks to (slice_index_or table to []) (are.each to high) s port low x),
   )
 
-  small : (s to port : ℕ) → IsLegalBy t ranks table s to port → port < 256
+  pub small : (s to port : ℕ) → IsLegalBy t ranks table s to port → port < 256
   small s to port (inl x) = omega (arith, channel_port_small t good s port x.2.0 x.2.1)
   small s to port (inr x) = omega (arith, channel_port_small t good s port x.2.0 x.2.1)
 

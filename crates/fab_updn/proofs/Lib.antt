@@ -16,3 +16,6 @@ pub mod Balancing
 pub mod Eligibility
 pub mod Pairs
 pub mod Plans
+pub mod Exists
+pub mod OnePlan
+pub mod Unnamed

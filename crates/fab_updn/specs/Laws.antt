@@ -1,9 +1,9 @@
 -- Laws of up/down routing. Those that take any ranks hold of the right ones too.
-use Rattle.std.specs.Prelude.{◌≡◌, ℕ, ◌⊎◌, List, Some, slice_get}
+use Rattle.std.specs.Prelude.{◌≡◌, ℕ, ◌<◌, ◌⊎◌, List, [], length, All, Some, slice_get}
 use Rattle.fab_graph.specs.Walks.{IsAcyclic}
 use Rattle.fab_model.specs.declared.rows.ChannelRow.{ChannelRow}
 use Rattle.fab_model.specs.Topology.{Topology}
-use Rattle.fab_model.specs.WellFormed.{IsWellFormed}
+use Rattle.fab_model.specs.WellFormed.{IsWellFormed, IsFabric}
 use Rattle.fab_model.specs.Connected.{IsConnectedTo}
 use Rattle.fab_tables.specs.declared.plan.Plan.{Plan}
 use Rattle.fab_tables.specs.Entries.{Entries}
@@ -46,3 +46,16 @@ OneRefusedPair = (t : Topology) (named : List ℕ) (from to a b : ℕ) → IsRef
 -- and no plan beside it
 abbrev pub PlanOrRefusal : Type 0
 PlanOrRefusal = (t : Topology) (named : List ℕ) (p : Plan) (from to : ℕ) → IsUpDownPlan t named p → ¬ IsRefusedPair t named from to
+
+-- a fabric with named roots has one plan at most
+abbrev pub OneUpDownPlan : Type 0
+OneUpDownPlan = (t : Topology) (named : List ℕ) (p q : Plan) → IsWellFormed t → IsUpDownPlan t named p → IsUpDownPlan t named q → p ≡ q
+
+-- and where the roots are switches of it, it has a plan or a refused pair
+abbrev pub PlanOrRefusalExists : Type 0
+PlanOrRefusalExists = (t : Topology) (named : List ℕ) → IsFabric t → All (λ root. root < length t.switches) named →
+    ((p : Plan) × IsUpDownPlan t named p) ⊎ ((from to : ℕ) × IsRefusedPair t named from to)
+
+-- where no root is named, no pair is refused
+abbrev pub UnnamedNeverRefused : Type 0
+UnnamedNeverRefused = (t : Topology) (from to : ℕ) → IsWellFormed t → ¬ IsRefusedPair t [] from to

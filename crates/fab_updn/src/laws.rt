@@ -1,5 +1,5 @@
 //! Laws of up/down routing. Each function is empty; what it ensures is the law.
-ghost use Rattle.fab_updn.specs.Laws.{OneRank, OneListOfRanks, UpDownReaches, NoDownThenUp, LegalTurnsAreAcyclic, OneRefusedPair, PlanOrRefusal};
+ghost use Rattle.fab_updn.specs.Laws.{OneRank, OneListOfRanks, UpDownReaches, NoDownThenUp, LegalTurnsAreAcyclic, OneRefusedPair, PlanOrRefusal, OneUpDownPlan, PlanOrRefusalExists, UnnamedNeverRefused};
 
 /// A switch has one rank at most.
 pub fn one_rank()
@@ -34,4 +34,19 @@ pub fn one_refused_pair()
 /// Where a pair is refused, there is no plan.
 pub fn plan_or_refusal()
     ensures { PlanOrRefusal }
+{}
+
+/// A fabric with named roots has one plan at most.
+pub fn one_up_down_plan()
+    ensures { OneUpDownPlan }
+{}
+
+/// A fabric with named roots has a plan or a refused pair.
+pub fn plan_or_refusal_exists()
+    ensures { PlanOrRefusalExists }
+{}
+
+/// Where no root is named, no pair is refused.
+pub fn unnamed_never_refused()
+    ensures { UnnamedNeverRefused }
 {}
