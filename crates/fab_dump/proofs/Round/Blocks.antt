@@ -1,5 +1,5 @@
 -- Table and levels blocks that are written, and read.
-use Rattle.std.proofs.Common.{◌≡◌, ◌≢◌, ◌<◌, ◌*◌, ℕ, ◌+◌, Bool, true, false, List, [], ◌∷◌, ◌++◌, length, map, get_or, nat_eq, refl, sym, ◌∙◌, ap, subst, arith, Option, Some}
+use Rattle.std.proofs.Common.{◌≡◌, ◌≢◌, ◌<◌, ◌*◌, ℕ, ◌+◌, Bool, true, false, List, [], ◌∷◌, ◌++◌, length, map, get_or, nat_eq, refl, sym, ◌∙◌, ap, subst, arith, Some}
 use Rattle.std.specs.Prelude.{All, ◌&&◌, flat_map, slice_get, is_some, if◌then◌else◌}
 use Rattle.std.specs.List.{enumerate_from}
 use Rattle.std.proofs.lemmas.Bool.{and_left, ne_eqb}
@@ -21,7 +21,7 @@ use Rattle.fab_dump.specs.Writing.{table_head_text, table_block, guid_head_text,
 use Rattle.fab_dump.proofs.Round.LinesPlaces.{IsLong, WaitsForNone}
 use Rattle.fab_dump.proofs.Round.LinesTables.{table_head_said, table_row_said}
 use Rattle.fab_dump.proofs.Round.LinesLanes.{levels_head_said, level_row_said}
-use Rattle.fab_dump.proofs.Round.Said.{port_of, table_said, level_of, levels_block_said, all_tables, all_levels}
+use Rattle.fab_dump.proofs.Round.Said.{table_said, level_of, levels_block_said, all_tables, all_levels}
 use Rattle.fab_dump.proofs.Round.Fresh.{Spoken, Within, IsFurther, further, Apart, not_given_more, new_table, new_port, new_levels, new_level}
 use Rattle.fab_dump.proofs.Round.Leads.{Leads, leads_none, leads_line, leads_then, adds_new, Went, went_rows, each_row}
 use Rattle.fab_dump.proofs.Round.Rows.{block_leads}
