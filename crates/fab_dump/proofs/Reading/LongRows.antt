@@ -11,7 +11,7 @@ use Rattle.std.proofs.lemmas.Option.{slice_get_within, get_or_from_slice_get, sl
 use Rattle.fab_text.specs.Fields.{hex, all_read}
 use Rattle.fab_model.specs.Topology.{Topology, lids_of}
 use Rattle.fab_tables.specs.Entries.{index_of}
-use Rattle.fab_tables.proofs.Rows.Cells.{index_found, index_there}
+use Rattle.fab_tables.proofs.Rows.Cells.{index_found, index_there, unsome}
 use Rattle.fab_dump.specs.declared.fault.PlanFault.{PlanFault}
 use Rattle.fab_dump.specs.declared.form.Block.{Block}
 use Rattle.fab_dump.specs.declared.reader.PlanReader.{PlanReader}
@@ -132,9 +132,6 @@ row_refused twice s b all new more e h = ap (λ xs. adds twice s b xs) e ∙ ap 
 
 pub same_there : (lids : List ℕ) (place lid found : ℕ) → slice_get lids place ≡ Some lid → slice_get lids place ≡ Some found → found ≡ lid
 same_there lids place lid found a b = unsome found lid (sym b ∙ a)
-  where
-    unsome : (a b : ℕ) → Some a ≡ Some b → a ≡ b
-    unsome a b e = cc
 
 -- so many values of a row were told
 abbrev pub ToldSoFar : {A : Type 0} → PlanReader → PlanReader → Block → (ℕ → A → Given) → ℕ → List A → ℕ → Type 0

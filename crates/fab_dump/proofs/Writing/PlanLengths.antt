@@ -3,9 +3,8 @@ use Rattle.std.proofs.Common.{◌≡◌, ℕ, ◌+◌, ◌<◌, ◌≤◌, List,
 use Rattle.std.specs.Prelude.{All, flat_map, ◌==◌}
 use Rattle.std.specs.List.{enumerate_from}
 use Rattle.std.proofs.lemmas.Bool.{cond_both}
-use Rattle.fab_model.specs.Topology.{Topology, lids_of}
+use Rattle.fab_model.specs.Topology.{Topology}
 use Rattle.fab_model.specs.WellFormed.{IsFabric}
-use Rattle.fab_model.proofs.Order.{lids_are_counted}
 use Rattle.fab_tables.specs.declared.plan.Plan.{Plan}
 use Rattle.fab_tables.specs.declared.lanes.PairRow.{PairRow}
 use Rattle.fab_tables.specs.Entries.{Entries}
@@ -15,6 +14,7 @@ use Rattle.fab_dump.specs.Writing.{plan_lines, version_text, version_of, lanes_l
 use Rattle.fab_dump.specs.Laws.{WrittenIsShort}
 use Rattle.fab_dump.proofs.Round.Lines.{number_fits}
 use Rattle.fab_dump.proofs.Round.Pairs.{of_earlier, of_none, of_all, of_numbered, switches_are_rising}
+use Rattle.fab_dump.proofs.Writing.Rows.{few_lids}
 use Rattle.fab_dump.proofs.Writing.LineLengths.{size, size_none, size_cons, size_one, size_append, lid_length}
 use Rattle.fab_dump.proofs.Writing.BlockLengths.{HasShortHead, HasAllLevels, size_numbered, table_size, levels_size, pairs_by_switch, maps_size, numbers_size}
 
@@ -36,17 +36,14 @@ lanes_line_length (Some l) few = omega (arith, lid_length l.count (omega (arith,
 -- ---- the parts
 
 module _ (t : Topology) (fabric : IsFabric t) where
-  few_lids : length (lids_of t) ≤ 16384
-  few_lids = omega (arith, lids_are_counted t, fabric.rows.lid_count)
-
   short_heads : All HasShortHead t.switches
   short_heads = λ k d h. (omega (arith, (fabric.rows.switch_lids k d h).1), (fabric.types.switch_descriptions k d h).within)
 
   tables_short : (e : Entries) → size (flat_map (table_block t e) (enumerate_from 0 t.switches)) ≤ 138176512
-  tables_short e = omega (arith, fabric.rows.switch_count, size_numbered (table_block t e) HasShortHead 67469 (λ s row short. table_size t few_lids e s row short) 0 t.switches short_heads)
+  tables_short e = omega (arith, fabric.rows.switch_count, size_numbered (table_block t e) HasShortHead 67469 (λ s row short. table_size t (few_lids t fabric) e s row short) 0 t.switches short_heads)
 
   levels_short : (l : LaneTables) → size (flat_map (levels_block t l) (enumerate_from 0 t.switches)) ≤ 104419328
-  levels_short l = omega (arith, fabric.rows.switch_count, size_numbered (levels_block t l) (λ row. Unit {0}) 50986 (λ s row any. levels_size t few_lids l s row) 0 t.switches (λ k d h. tt))
+  levels_short l = omega (arith, fabric.rows.switch_count, size_numbered (levels_block t l) (λ row. Unit {0}) 50986 (λ s row any. levels_size t (few_lids t fabric) l s row) 0 t.switches (λ k d h. tt))
 
   pairs_counted : (l : LaneTables) → LanesFit t l → pairs_by_switch l.pairs 0 t.switches ≡ l.pairs
   pairs_counted l fit =
