@@ -1,5 +1,5 @@
 -- Rows of up to 64 LIDs.
-use Rattle.std.proofs.Common.{◌≡◌, ℕ, zero, suc, ◌+◌, ◌-◌, ◌%◌, ◌<◌, ◌≤◌, true, false, List, [], ◌∷◌, ◌++◌, length, take, drop, get_or, map, min, Some, None, Option, inl, inr, refl, sym, ◌∙◌, ap, subst, arith}
+use Rattle.std.proofs.Common.{◌≡◌, ℕ, zero, suc, ◌+◌, ◌-◌, ◌%◌, ◌<◌, ◌≤◌, List, [], ◌∷◌, ◌++◌, length, take, drop, get_or, map, min, Some, None, Option, inl, inr, refl, sym, ◌∙◌, ap, subst, arith}
 use Rattle.std.specs.Prelude.{slice_get, if◌then◌else◌}
 use Rattle.std.specs.List.{zip}
 use Rattle.std.specs.List.Sorted.{IsStrictlyIncreasing}
@@ -12,13 +12,11 @@ use Rattle.fab_text.specs.Fields.{hex, all_read}
 use Rattle.fab_model.specs.Topology.{Topology, lids_of}
 use Rattle.fab_tables.specs.Entries.{index_of}
 use Rattle.fab_tables.proofs.Rows.Cells.{index_found, index_there, unsome}
-use Rattle.fab_dump.specs.declared.fault.PlanFault.{PlanFault}
 use Rattle.fab_dump.specs.declared.form.Block.{Block}
 use Rattle.fab_dump.specs.declared.reader.PlanReader.{PlanReader}
 use Rattle.fab_dump.specs.FieldsLeft.{AreNot, AreRowLids}
-use Rattle.fab_dump.specs.Given.{Given, was_given, said_of}
-use Rattle.fab_dump.specs.Lines.{Form, State, adds, goes, lids_at, lids_from, row_lids, paired, long_row}
-use Rattle.fab_dump.specs.Lines.Next.{Goes, Fails}
+use Rattle.fab_dump.specs.Given.{Given, said_of}
+use Rattle.fab_dump.specs.Lines.{Form, State, lids_at, lids_from, row_lids, paired, long_row}
 use Rattle.fab_dump.specs.Standing.{Stands}
 
 -- as many as there are, and 64 at most
@@ -121,15 +119,6 @@ first_at lids first lid others e within =
     let here : first + 0 ≡ first = omega arith in
     ap (λ n. get_or lids n lid) (sym here) ∙ sym (get_or-drop first lids 0 lid) ∙ ap (λ xs. get_or xs 0 lid) e
 
--- a row of which the first LID is new
-pub row_added : (twice : PlanFault) (s : State) (b : Block) (all : List Given) (new : Given) (more : List Given) → all ≡ new ∷ more → was_given s.given new ≡ false →
-    adds twice s b all ≡ Goes (record { open_block = b; given = s.given ++ all })
-row_added twice s b all new more e h =
-    ap (λ xs. adds twice s b xs) e ∙ ap (λ v. if v then Fails twice else goes s b (new ∷ more)) h ∙ ap (λ xs. goes s b xs) (sym e)
-
-pub row_refused : (twice : PlanFault) (s : State) (b : Block) (all : List Given) (new : Given) (more : List Given) → all ≡ new ∷ more → was_given s.given new ≡ true → adds twice s b all ≡ Fails twice
-row_refused twice s b all new more e h = ap (λ xs. adds twice s b xs) e ∙ ap (λ v. if v then Fails twice else goes s b (new ∷ more)) h
-
 pub same_there : (lids : List ℕ) (place lid found : ℕ) → slice_get lids place ≡ Some lid → slice_get lids place ≡ Some found → found ≡ lid
 same_there lids place lid found a b = unsome found lid (sym b ∙ a)
 
@@ -170,9 +159,3 @@ module _ {A : Type 0} (before : PlanReader) (b : Block) (say : ℕ → A → Giv
   told_all now i whole told f s stands =
       subst (λ (g : List Given). Stands before.fabric.now f (record { open_block = b; given = s.given ++ g }) now)
       (take_all i all (omega (arith, whole, length-map (zip (drop first lids) values) (λ (row : ℕ × A). say row.0 row.1), length-zip (drop first lids) values))) (told f s stands)
-
-pub row_of : (a b : List ℕ) (x y : List (List ℕ)) (place : ℕ × ℕ) → a ≡ b → x ≡ y → AreRowLids a place (row_lids a x) → AreRowLids b place (row_lids b y)
-row_of a b x y place e h are = subst (λ fs. AreRowLids b place (row_lids b fs)) h (subst (λ ls. AreRowLids ls place (row_lids ls x)) e are)
-
-pub values_of : {A : Type 0} (read : List ℕ → Option A) (line x y : List (List ℕ)) (values : List A) → x ≡ line → y ≡ drop 1 x → all_read read y ≡ Some values → all_read read (drop 1 line) ≡ Some values
-values_of read line x y values a b h = ap (λ fs. all_read read (drop 1 fs)) (sym a) ∙ ap (all_read read) (sym b) ∙ h
