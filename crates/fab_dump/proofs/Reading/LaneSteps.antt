@@ -19,7 +19,7 @@ use Rattle.fab_dump.specs.Given.{Given, subject, was_given, with_lanes}
 use Rattle.fab_dump.specs.Given.Given.{Number, PairMap}
 use Rattle.fab_dump.specs.Lines.{is_pair_map}
 use Rattle.fab_dump.specs.Orderly.{LanesTell}
-use Rattle.fab_dump.proofs.Reading.Marks.{was_given-push, not_of, or_false, same_switch}
+use Rattle.fab_dump.proofs.Reading.Marks.{was_given-push, not_of, or_false, and_true, same_switch}
 use Rattle.fab_dump.proofs.Reading.PairSteps.{pair_new, keys_new, all_new, any_new}
 
 pub record AreGood (t : Topology) (given : List Given) (l : LaneTables) : Type 0 where
@@ -142,10 +142,6 @@ good_number t given l channel lane n low lane_low some few h = record {
   where
     turned : (a b : ℕ) → nat_eq a b ≡ nat_eq b a
     turned a b = elim (eqb_tells b a) [ inl y ↦ eq-eqb a b (sym y.1) ∙ sym y.0 | inr y ↦ ne_eqb a b (λ e. y.1 (sym e)) ∙ sym y.0 ]
-
-    and_true : (b : Bool) → (b && true) ≡ b
-    and_true true = refl
-    and_true false = refl
 
     same_parts : (a b x y : ℕ) → (nat_eq a b && (nat_eq x y && true)) ≡ (nat_eq b a && nat_eq y x)
     same_parts a b x y = ap (λ v. v && (nat_eq x y && true)) (turned a b) ∙ ap (λ v. nat_eq b a && v) (and_true (nat_eq x y) ∙ turned x y)

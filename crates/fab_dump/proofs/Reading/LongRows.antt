@@ -1,23 +1,22 @@
 -- Rows of up to 64 LIDs.
-use Rattle.std.proofs.Common.{◌≡◌, ℕ, zero, suc, ◌+◌, ◌-◌, ◌%◌, ◌<◌, ◌≤◌, true, false, List, [], ◌∷◌, ◌++◌, length, take, drop, get_or, map, min, Some, None, Option, inl, inr, refl, sym, ◌∙◌, ap, subst, arith}
+use Rattle.std.proofs.Common.{◌≡◌, ℕ, zero, suc, ◌+◌, ◌-◌, ◌%◌, ◌<◌, ◌≤◌, List, [], ◌∷◌, ◌++◌, length, take, drop, get_or, map, min, Some, None, Option, inl, inr, refl, sym, ◌∙◌, ap, subst, arith}
 use Rattle.std.specs.Prelude.{slice_get, if◌then◌else◌}
 use Rattle.std.specs.List.{zip}
 use Rattle.std.specs.List.Sorted.{IsStrictlyIncreasing}
 use Rattle.std.proofs.lemmas.Bool.{cases_order, cases_lt, eq-eqb, ne_eqb}
-use Rattle.std.proofs.lemmas.List.{get_or-drop, get_or_default, append_assoc, append-nil, length-drop, length-take-le, take_all}
+use Rattle.std.proofs.lemmas.List.{get_or-drop, get_or_default, append_assoc, append-nil, length-drop, length-map, length-take-le, take_all}
+use Rattle.std.proofs.lemmas.Slice.Zip.{length-zip}
 use Rattle.std.proofs.lemmas.List.Kept.{AllPairs-from_increasing}
 use Rattle.std.proofs.lemmas.Option.{slice_get_within, get_or_from_slice_get, slice_get-get_or}
 use Rattle.fab_text.specs.Fields.{hex, all_read}
 use Rattle.fab_model.specs.Topology.{Topology, lids_of}
 use Rattle.fab_tables.specs.Entries.{index_of}
-use Rattle.fab_tables.proofs.Rows.Cells.{index_found, index_there}
-use Rattle.fab_dump.specs.declared.fault.PlanFault.{PlanFault}
+use Rattle.fab_tables.proofs.Rows.Cells.{index_found, index_there, unsome}
 use Rattle.fab_dump.specs.declared.form.Block.{Block}
 use Rattle.fab_dump.specs.declared.reader.PlanReader.{PlanReader}
 use Rattle.fab_dump.specs.FieldsLeft.{AreNot, AreRowLids}
-use Rattle.fab_dump.specs.Given.{Given, was_given, said_of}
-use Rattle.fab_dump.specs.Lines.{Form, State, adds, goes, lids_at, lids_from, row_lids, paired, long_row}
-use Rattle.fab_dump.specs.Lines.Next.{Goes, Fails}
+use Rattle.fab_dump.specs.Given.{Given, said_of}
+use Rattle.fab_dump.specs.Lines.{Form, State, lids_at, lids_from, row_lids, paired, long_row}
 use Rattle.fab_dump.specs.Standing.{Stands}
 
 -- as many as there are, and 64 at most
@@ -120,53 +119,43 @@ first_at lids first lid others e within =
     let here : first + 0 ≡ first = omega arith in
     ap (λ n. get_or lids n lid) (sym here) ∙ sym (get_or-drop first lids 0 lid) ∙ ap (λ xs. get_or xs 0 lid) e
 
--- a row of which the first LID is new
-pub row_added : (twice : PlanFault) (s : State) (b : Block) (all : List Given) (new : Given) (more : List Given) → all ≡ new ∷ more → was_given s.given new ≡ false →
-    adds twice s b all ≡ Goes (record { open_block = b; given = s.given ++ all })
-row_added twice s b all new more e h =
-    ap (λ xs. adds twice s b xs) e ∙ ap (λ v. if v then Fails twice else goes s b (new ∷ more)) h ∙ ap (λ xs. goes s b xs) (sym e)
-
-pub row_refused : (twice : PlanFault) (s : State) (b : Block) (all : List Given) (new : Given) (more : List Given) → all ≡ new ∷ more → was_given s.given new ≡ true → adds twice s b all ≡ Fails twice
-row_refused twice s b all new more e h = ap (λ xs. adds twice s b xs) e ∙ ap (λ v. if v then Fails twice else goes s b (new ∷ more)) h
-
--- nothing was said of the row yet
-pub none_said : (t : Topology) (f : Form) (s : State) (r : PlanReader) (b : Block) (all : List Given) → r.block ≡ b → Stands t f s r → Stands t f (record { open_block = b; given = s.given ++ take 0 all }) r
-none_said t f s r b all is stands =
-    subst (λ (x : Block). Stands t f (record { open_block = x; given = s.given ++ [] }) r) (sym stands.block ∙ is)
-    (subst (λ (g : List Given). Stands t f (record { open_block = s.open_block; given = g }) r) (sym (append-nil s.given)) stands)
-
-pub one_said : (t : Topology) (f : Form) (s : State) (r : PlanReader) (b : Block) (all : List Given) (new : Given) (i : ℕ) → take (i + 1) all ≡ take i all ++ new ∷ [] →
-    Stands t f (record { open_block = b; given = (s.given ++ take i all) ++ new ∷ [] }) r → Stands t f (record { open_block = b; given = s.given ++ take (i + 1) all }) r
-one_said t f s r b all new i more h =
-    subst (λ (g : List Given). Stands t f (record { open_block = b; given = g }) r) (append_assoc s.given (take i all) (new ∷ []) ∙ ap (λ xs. s.given ++ xs) (sym more)) h
-
-pub all_said : (t : Topology) (f : Form) (s : State) (r : PlanReader) (b : Block) (all : List Given) (i : ℕ) → length all ≤ i →
-    Stands t f (record { open_block = b; given = s.given ++ take i all }) r → Stands t f (record { open_block = b; given = s.given ++ all }) r
-all_said t f s r b all i whole h = subst (λ (g : List Given). Stands t f (record { open_block = b; given = s.given ++ g }) r) (take_all i all whole) h
-
 pub same_there : (lids : List ℕ) (place lid found : ℕ) → slice_get lids place ≡ Some lid → slice_get lids place ≡ Some found → found ≡ lid
 same_there lids place lid found a b = unsome found lid (sym b ∙ a)
-  where
-    unsome : (a b : ℕ) → Some a ≡ Some b → a ≡ b
-    unsome a b e = cc
 
-pub one_value_said : {A : Type 0} (t : Topology) (f : Form) (s : State) (r : PlanReader) (b : Block) (say : ℕ → A → Given) (none : A) (first : ℕ) (values : List A) (i : ℕ) →
-    first + length values ≤ length (lids_of t) → i < length values →
-    ((lid : ℕ) → slice_get (lids_of t) (first + i) ≡ Some lid → Stands t f
-    (record { open_block = b; given = (s.given ++ take i (said_of say (zip (drop first (lids_of t)) values))) ++ say lid (get_or values i none) ∷ [] }) r) →
-    Stands t f (record { open_block = b; given = s.given ++ take (i + 1) (said_of say (zip (drop first (lids_of t)) values)) }) r
-one_value_said {A} t f s r b say none first values i within low h =
-    let lids : List ℕ = lids_of t in
-    let rest : List ℕ = drop first lids in
-    let lid : ℕ = get_or lids (first + i) 0 in
-    let size : length rest ≡ length lids - first = length-drop first lids in
-    let there : get_or rest i lid ≡ lid = get_or-drop first lids i lid ∙ get_or_default lids (first + i) lid 0 (omega (arith, within, low)) in
-    one_said t f s r b (said_of say (zip rest values)) (say lid (get_or values i none)) i
-    (zip_more (λ (row : ℕ × A). say row.0 row.1) rest values i lid (get_or values i none) (omega (arith, size, within, low)) low there (get_or_default values i (get_or values i none) none low))
-    (h lid (slice_get-get_or lids (first + i) 0 (omega (arith, within, low))))
+-- so many values of a row were told
+abbrev pub ToldSoFar : {A : Type 0} → PlanReader → PlanReader → Block → (ℕ → A → Given) → ℕ → List A → ℕ → Type 0
+ToldSoFar before now b say first values i = (f : Form) (s : State) → Stands before.fabric.now f s before →
+    Stands before.fabric.now f (record { open_block = b; given = s.given ++ take i (said_of say (zip (drop first (lids_of before.fabric.now)) values)) }) now
 
-pub row_of : (a b : List ℕ) (x y : List (List ℕ)) (place : ℕ × ℕ) → a ≡ b → x ≡ y → AreRowLids a place (row_lids a x) → AreRowLids b place (row_lids b y)
-row_of a b x y place e h are = subst (λ fs. AreRowLids b place (row_lids b fs)) h (subst (λ ls. AreRowLids ls place (row_lids ls x)) e are)
+module _ {A : Type 0} (before : PlanReader) (b : Block) (say : ℕ → A → Given) (first : ℕ) (values : List A) where
+  abbrev lids : List ℕ
+  lids = lids_of before.fabric.now
 
-pub values_of : {A : Type 0} (read : List ℕ → Option A) (line x y : List (List ℕ)) (values : List A) → x ≡ line → y ≡ drop 1 x → all_read read y ≡ Some values → all_read read (drop 1 line) ≡ Some values
-values_of read line x y values a b h = ap (λ fs. all_read read (drop 1 fs)) (sym a) ∙ ap (all_read read) (sym b) ∙ h
+  abbrev all : List Given
+  all = said_of say (zip (drop first lids) values)
+
+  pub told_none : before.block ≡ b → ToldSoFar before before b say first values 0
+  told_none is f s stands =
+      subst (λ (x : Block). Stands before.fabric.now f (record { open_block = x; given = s.given ++ [] }) before) (sym stands.block ∙ is)
+      (subst (λ (g : List Given). Stands before.fabric.now f (record { open_block = s.open_block; given = g }) before) (sym (append-nil s.given)) stands)
+
+  -- the next value, by a call that tells it
+  pub told_one : (now next : PlanReader) (none : A) (i : ℕ) → first + length values ≤ length lids → i < length values →
+      ((t : Topology) (f : Form) (s : State) (lid : ℕ) → slice_get (lids_of t) (first + i) ≡ Some lid → Stands t f s now → Stands t f (record { open_block = b; given = s.given ++ say lid (get_or values i none) ∷ [] }) next) →
+      ToldSoFar before now b say first values i → ToldSoFar before next b say first values (i + 1)
+  told_one now next none i within low tells told f s stands =
+      let rest : List ℕ = drop first lids in
+      let lid : ℕ = get_or lids (first + i) 0 in
+      let value : A = get_or values i none in
+      let size : length rest ≡ length lids - first = length-drop first lids in
+      let there : get_or rest i lid ≡ lid = get_or-drop first lids i lid ∙ get_or_default lids (first + i) lid 0 (omega (arith, within, low)) in
+      let more : take (i + 1) all ≡ take i all ++ say lid value ∷ []
+      = zip_more (λ (row : ℕ × A). say row.0 row.1) rest values i lid value (omega (arith, size, within, low)) low there (get_or_default values i value none low) in
+      subst (λ (g : List Given). Stands before.fabric.now f (record { open_block = b; given = g }) next) (append_assoc s.given (take i all) (say lid value ∷ []) ∙ ap (λ xs. s.given ++ xs) (sym more))
+      (tells before.fabric.now f (record { open_block = b; given = s.given ++ take i all }) lid (slice_get-get_or lids (first + i) 0 (omega (arith, within, low))) (told f s stands))
+
+  pub told_all : (now : PlanReader) (i : ℕ) → length values ≤ i → ToldSoFar before now b say first values i → (f : Form) (s : State) → Stands before.fabric.now f s before →
+      Stands before.fabric.now f (record { open_block = b; given = s.given ++ all }) now
+  told_all now i whole told f s stands =
+      subst (λ (g : List Given). Stands before.fabric.now f (record { open_block = b; given = s.given ++ g }) now)
+      (take_all i all (omega (arith, whole, length-map (zip (drop first lids) values) (λ (row : ℕ × A). say row.0 row.1), length-zip (drop first lids) values))) (told f s stands)

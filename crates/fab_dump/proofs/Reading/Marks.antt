@@ -9,7 +9,7 @@ use Rattle.std.proofs.lemmas.List.Folds.{list_any-append}
 use Rattle.std.proofs.lemmas.List.Sums.{fold-append}
 use Rattle.fab_model.specs.Topology.{Topology}
 use Rattle.fab_tables.specs.Entries.{Entries, index_of, with_entry, with_port_in_column}
-use Rattle.fab_tables.proofs.Rows.Cells.{index_found}
+use Rattle.fab_tables.proofs.Rows.Cells.{index_found, unsome}
 use Rattle.fab_dump.specs.Given.{Given, subject, was_given, plan_with, plan_given}
 use Rattle.fab_dump.specs.Standing.{AreMarks, AreRowMarks}
 
@@ -42,9 +42,6 @@ pub marks_stay : (count : ℕ) (statement : ℕ → Given) (given : List Given) 
     AreMarks count statement given marks → AreMarks count statement (given ++ new ∷ []) marks
 marks_stay count statement given new marks other h = λ s low. h s low ∙ sym (not_of given new (statement s) (other s))
 
-unsome : {A : Type 0} (a b : A) → Some a ≡ Some b → a ≡ b
-unsome a b e = cc
-
 -- a mark where the new statement speaks of the switch of this number
 pub mark_set : (count : ℕ) (statement : ℕ → Given) (given : List Given) (marks : List Bool) (s : ℕ) →
     ((other : ℕ) → bytes_eq (subject (statement s)) (subject (statement other)) ≡ nat_eq s other) → s < length marks →
@@ -67,20 +64,16 @@ row_mark_set lids statement new lid given marks place same found within h = λ o
       get_or-set_other marks place p true false apart ∙ h other p e ∙ sym (not_of given new (statement other) (same other ∙ n.0))
 ]
 
+pub and_true : (b : Bool) → (b && true) ≡ b
+and_true true = refl
+and_true false = refl
+
 -- subjects of one kind and one switch
 pub same_lid : (s a b : ℕ) → (nat_eq s s && (nat_eq a b && true)) ≡ nat_eq a b
 same_lid s a b = ap (λ v. v && (nat_eq a b && true)) (same_number s) ∙ and_true (nat_eq a b)
-  where
-    and_true : (b : Bool) → (b && true) ≡ b
-    and_true true = refl
-    and_true false = refl
 
 pub same_switch : (a b : ℕ) → (nat_eq a b && true) ≡ nat_eq a b
 same_switch a b = and_true (nat_eq a b)
-  where
-    and_true : (b : Bool) → (b && true) ≡ b
-    and_true true = refl
-    and_true false = refl
 
 -- what stays of entries
 pub entries_keep : (e : Entries) (s lid port : ℕ) → ((with_entry e s lid port).switches ≡ e.switches) × ((with_entry e s lid port).in_use ≡ e.in_use)

@@ -4,6 +4,7 @@ use Rattle.std.specs.Prelude.{if◌then◌else◌}
 use Rattle.std.proofs.lemmas.Bool.{ne_eqb, eq-eqb}
 use Rattle.std.proofs.lemmas.List.{append_assoc, append-nil, length-append}
 use Rattle.fab_text.specs.Fields.{with_first, all_read}
+use Rattle.fab_tables.proofs.Rows.Cells.{none_some, unsome}
 use Rattle.fab_dump.specs.FieldsLeft.{prepended, AreNot}
 use Rattle.fab_dump.specs.Lines.{sixteen}
 
@@ -15,12 +16,6 @@ module _ {A : Type 0} (read : List ℕ → Option A) where
   pub one_value : (xs : List A) (x : A) (field : List ℕ) (others : List (List ℕ)) → Some x ≡ read field →
       prepended xs (all_read read (field ∷ others)) ≡ prepended (xs ++ x ∷ []) (all_read read others)
   one_value xs x field others e = ap (λ o. prepended xs (with_first o (all_read read others))) (sym e) ∙ with_value xs x (all_read read others)
-
-none_some : {B : Type 0} (b : B) → None ≡ Some b → ⊥
-none_some b e = cc
-
-unsome : {B : Type 0} (a b : B) → Some a ≡ Some b → a ≡ b
-unsome a b e = cc
 
 pub not_read : {A : Type 0} (count : ℕ) (o : Option (List A)) → o ≡ None → AreNot count o
 not_read count o e = λ values h. absurd (none_some values (sym e ∙ h))

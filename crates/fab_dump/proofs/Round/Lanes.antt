@@ -22,7 +22,7 @@ use Rattle.fab_dump.proofs.Writing.Rows.{Row, some_row}
 use Rattle.fab_dump.proofs.Round.Said.{level_of, levels_block_said, map_block_said, number_of, numbers_said, all_levels, all_maps, all_numbers}
 use Rattle.fab_dump.proofs.Round.Writes.{Has, Has-map, Has-flat_map, Has-range, all_flat_map, all_parts, all_numbered_parts, write_all, WritesTo, writes_of, IsRight, all_written}
 use Rattle.fab_dump.proofs.Round.Folds.{column_write, level_write, lane_writes, map_write, pair_of, number_write, lanes_fold}
-use Rattle.fab_dump.proofs.Round.Pairs.{of_earlier, of_none, of_all, of_numbered, pairs_placed, switches_are_rising}
+use Rattle.fab_dump.proofs.Round.Pairs.{of_fabric, pairs_placed}
 use Rattle.fab_dump.proofs.Round.Cells.{Place, place_of, row_there, lid_there, lid_place, column_written}
 use Rattle.fab_dump.proofs.Round.Stages.{Passes}
 
@@ -183,15 +183,7 @@ module _ (t : Topology) (l : LaneTables) (fit : LanesFit t l) where
       ∙ ap (λ ps. filter (is_of_switch s.0) l.pairs ++ ps) (pairs_of_blocks rows)
 
   all_pairs : flat_map pair_of (all_maps t l) ≡ l.pairs
-  all_pairs =
-      pairs_of_blocks (enumerate_from 0 t.switches)
-      ∙ ap (λ (ps : List PairRow). ps ++ flat_map (λ (s : ℕ × SwitchRow). filter (is_of_switch s.0) l.pairs) (enumerate_from 0 t.switches)) (sym (of_none l.pairs))
-      ∙ of_numbered l.pairs (switches_are_rising l.switches l.pairs fit.whole.in_order fit.whole.pairs) 0 t.switches
-      ∙ ap (λ (n : ℕ). of_earlier l.pairs n) count
-      ∙ of_all l.switches l.pairs fit.whole.pairs
-    where
-      count : 0 + length t.switches ≡ l.switches
-      count = omega (arith, fit.switches)
+  all_pairs = pairs_of_blocks (enumerate_from 0 t.switches) ∙ of_fabric t.switches l.switches l.pairs fit.switches fit.whole.in_order fit.whole.pairs
 
   pairs_back : fold with_pair_row [] (flat_map pair_of (all_maps t l)) ≡ l.pairs
   pairs_back = ap (λ (ps : List PairRow). fold with_pair_row [] ps) all_pairs ∙ pairs_placed l.pairs fit.whole.in_order

@@ -1,11 +1,9 @@
 -- What the lines of a plan's lanes say.
-use Rattle.std.proofs.Common.{◌≡◌, ◌<◌, ◌≤◌, ◌*◌, ◌^◌, ℕ, true, false, List, [], ◌∷◌, ◌++◌, length, map, get_or, IfSome, Some, None, Option, codes, refl, sym, ◌∙◌, ap, subst, arith, inl, inr}
-use Rattle.std.specs.Prelude.{All, MatchOption, slice_get, is_some, option_map, option_and_then, unwrap_or, decimal, if◌then◌else◌, nat_lt}
-use Rattle.std.specs.List.{range_with_len}
-use Rattle.std.proofs.lemmas.Bool.{ne_eqb, cases_lt, cond_both}
-use Rattle.std.proofs.lemmas.List.{append_assoc, append-nil, get_or_past, length-append}
-use Rattle.std.proofs.lemmas.List.Elements.{All-append, All-get_or, All-cons, All-map}
-use Rattle.std.proofs.lemmas.List.FromFn.{length-map-range_with_len}
+use Rattle.std.proofs.Common.{◌≡◌, ◌<◌, ◌≤◌, ◌*◌, ◌^◌, ℕ, true, false, List, [], ◌∷◌, ◌++◌, length, map, get_or, IfSome, Some, None, Option, codes, refl, sym, ◌∙◌, ap, subst, arith}
+use Rattle.std.specs.Prelude.{MatchOption, slice_get, is_some, option_map, option_and_then, unwrap_or, decimal, if◌then◌else◌}
+use Rattle.std.proofs.lemmas.Bool.{ne_eqb}
+use Rattle.std.proofs.lemmas.List.{append_assoc, append-nil, length-append}
+use Rattle.std.proofs.lemmas.List.Elements.{All-append, All-cons}
 use Rattle.std.proofs.lemmas.Option.{slice_get_within, slice_get-get_or, get_or_from_slice_get}
 use Rattle.fab_text.specs.Bytes.{is_blank}
 use Rattle.fab_text.specs.Fields.{fields, dec_up_to, hex, without_last}
@@ -15,8 +13,8 @@ use Rattle.fab_model.specs.Topology.{Topology, lids_of, switch_id, is_source, gu
 use Rattle.fab_model.specs.WellFormed.{IsFabric}
 use Rattle.fab_model.proofs.Finds.{channels_are_found}
 use Rattle.fab_tables.specs.declared.lanes.PairRow.{PairRow}
-use Rattle.fab_tables.specs.Entries.{index_of, cell}
-use Rattle.fab_tables.specs.LaneTables.{LaneTables, AreLaneTables, IsPairRow, level, level_in_column, lane}
+use Rattle.fab_tables.specs.Entries.{index_of}
+use Rattle.fab_tables.specs.LaneTables.{LaneTables, IsPairRow, level}
 use Rattle.fab_tables.specs.Fit.{LanesFit, PairFits}
 use Rattle.fab_tables.proofs.Joined.Ascending.{lids_are}
 use Rattle.fab_dump.specs.declared.fault.PlanFault.TheVariants.{BadRow, TwiceBlock, TwiceRow, BadLevelRow, BadLaneRow}
@@ -30,6 +28,7 @@ use Rattle.fab_dump.specs.Writing.{hex16, port3, two, guid_head_text, numbered_r
 use Rattle.fab_dump.proofs.Round.LinesPlaces.{IsLong, WaitsForNone, kind_says, row_says, levels_says, waited_says}
 use Rattle.fab_dump.proofs.Round.LinesWords.{text_word, hex16_word, port_word, two_word, digits_differ, solid_bytes, last_off, row_is_row, row_back, lanes_words, lanes_fields, map_read_back, lanes_other, levels_guid, map_guid, levels_is_head, map_is_head}
 use Rattle.fab_dump.proofs.Round.LinesTables.{switch_found, guid_low}
+use Rattle.fab_dump.proofs.Writing.Lanes.{general_long, general_lanes, in_column}
 use Rattle.fab_text.proofs.Words.{IsWord, high_word, words_more}
 use Rattle.fab_dump.proofs.Round.WrittenFields.{fields_more, words_last}
 use Rattle.fab_text.proofs.SpelledFields.{dec_up_to_spelled}
@@ -51,18 +50,6 @@ levels_head_said t f n s k row fabric long none lanes at source =
     opened : Option ℕ → Next
     opened guid = opens (BadLevelRow n) (TwiceBlock n) s Levels LevelBlock (a_source t (option_and_then (switch_of t) guid))
 
-level_low : (l : LaneTables) (k lid : ℕ) → AreLaneTables l → IfSome (level l k lid) (λ n. n < 16)
-level_low l k lid are = go (index_of lid l.in_use)
-  where
-    go : (o : Option ℕ) → IfSome (level_in_column l k o) (λ n. n < 16)
-    go None = tt
-    go (Some i) = cond_both (nat_lt k l.switches) (get_or l.levels (cell l.switches i k) None) None (λ (o : Option ℕ). IfSome o (λ n. n < 16))
-        (λ b. elim (cases_lt (cell l.switches i k) (length l.levels)) [
-          | inl low ↦ All-get_or (λ (level : Option ℕ). IfSome level (λ n. n < 16)) l.levels (cell l.switches i k) None low are.low_levels
-          | inr past ↦ subst (λ (o : Option ℕ). IfSome o (λ n. n < 16)) (sym (get_or_past l.levels (cell l.switches i k) None past)) tt
-        ])
-        (λ b. tt)
-
 level_back : (o : Option ℕ) → IfSome o (λ n. n < 16) → level_field (level2 o) ≡ Some o
 level_back None h = refl
 level_back (Some n) h =
@@ -80,7 +67,7 @@ pub level_row_said : (t : Topology) (f : Form) (n : ℕ) (s : State) (l : LaneTa
 level_row_said t f n s l k i fabric long block fits within =
     levels_says t f n s (numbered_row t (λ lid. level2 (level l k lid)) i) long k block (row_is_row (λ lid. level2 (level l k lid)) (row_of (lids_of t) i))
     ∙ ap (long_level_row n s k) (row_back (lids_of t) i (lids_are t fabric).ascending (lids_are t fabric).fit within level_field (λ lid. level2 (level l k lid)) (λ lid. level l k lid)
-    (λ lid. level_word (level l k lid)) (λ lid. level_back (level l k lid) (level_low l k lid fits.whole)))
+    (λ lid. level_word (level l k lid)) (λ lid. level_back (level l k lid) (in_column l k (index_of lid l.in_use) fits.whole)))
 
 -- ---- lane maps
 
@@ -96,27 +83,13 @@ map_head_said t f n s k row fabric long none lanes at =
     opened : Option ℕ → Next
     opened guid = opens (BadLaneRow n) (TwiceBlock n) s MapRow MapBlock (option_and_then (switch_of t) guid)
 
-lane_low : (l : LaneTables) (k of_level : ℕ) → AreLaneTables l → lane l k of_level < 16
-lane_low l k of_level are = elim (cases_lt (cell 16 k of_level) (length l.general)) [
-  | inl low ↦ All-get_or (λ lane. lane < 16) l.general (cell 16 k of_level) 15 low are.lanes
-  | inr past ↦ omega (arith, get_or_past l.general (cell 16 k of_level) 15 past)
-]
-
-general_long : (l : LaneTables) (k : ℕ) → length (general_map l k) ≡ 16
-unfolding general_map
-general_long l k = length-map-range_with_len (λ of_level. lane l k of_level) 0 16
-
-general_low : (l : LaneTables) (k : ℕ) → AreLaneTables l → All (λ lane. lane < 16) (general_map l k)
-unfolding general_map
-general_low l k are = All-map (λ lane. lane < 16) (λ of_level. lane l k of_level) (range_with_len 0 16) (λ j d low. lane_low l k (get_or (range_with_len 0 16) j d) are)
-
 pub map_row_said : (t : Topology) (f : Form) (n : ℕ) (s : State) (l : LaneTables) (k : ℕ) → IsLong f.version → s.open_block ≡ MapRow (switch_id k) → LanesFit t l →
     line_says t f n s (lanes_text (general_map l k)) ≡ goes s (after_map_row f k) (Map k (general_map l k) ∷ [])
 map_row_said t f n s l k long block fits =
     let lanes : List ℕ = general_map l k in
     let some : 0 < length lanes = omega (arith, general_long l k) in
     waited_says t f n s (lanes_text lanes) long k Other block (lanes_other lanes some)
-    ∙ ap (λ fs. map_row f n s k (lanes_read fs)) (lanes_fields lanes some) ∙ ap (map_row f n s k) (map_read_back lanes (general_long l k) (general_low l k fits.whole))
+    ∙ ap (λ fs. map_row f n s k (lanes_read fs)) (lanes_fields lanes some) ∙ ap (map_row f n s k) (map_read_back lanes (general_long l k) (general_lanes l k (general_map l k) fits.whole refl))
 
 -- ---- pairs of ports
 

@@ -7,8 +7,8 @@ use Rattle.std.specs.Str.{bytes_eq}
 use Rattle.std.specs.Char.{is_digit}
 use Rattle.std.specs.Fmt.{digit_glyph}
 use Rattle.std.proofs.lemmas.Bool.{ne_eqb, eq-eqb, and_parts, and_left, and_right, cond_both, ltb-false}
-use Rattle.std.proofs.lemmas.List.{append-nil, length-append, length-take, length-drop, length-map, get_or-take, get_or-drop, get_or_at, take_at, map-id}
-use Rattle.std.proofs.lemmas.List.Elements.{All-nil, All-cons, All-head, All-get_or, All-append}
+use Rattle.std.proofs.lemmas.List.{length-append, length-take, length-drop, length-map, get_or-take, get_or-drop, get_or_at, take_at, map-id}
+use Rattle.std.proofs.lemmas.List.Elements.{All-nil, All-cons, All-get_or, All-append}
 use Rattle.std.proofs.lemmas.Option.{slice_get-get_or}
 use Rattle.fab_text.specs.Bytes.{is_blank}
 use Rattle.fab_text.specs.Fields.{fields, parts, without_empty, dec_up_to, hex, without_last, only_field, read_only, all_read}
@@ -17,8 +17,8 @@ use Rattle.fab_dump.specs.declared.line_kind.LineKind.TheVariants.{Comment, Tabl
 use Rattle.fab_tables.specs.Entries.{index_of}
 use Rattle.fab_dump.specs.Lines.{begins, kind_of, kind_found, levels_head, map_head, head_guid, lids_at, lids_from, row_lids, paired, long_row, lanes_read, sixteen}
 use Rattle.fab_dump.specs.Writing.{hex4, hex16, port3, two, row_text, row_of, lanes_text, guid_head_text}
-use Rattle.fab_text.proofs.Words.{IsWord, high_word, words_more}
-use Rattle.fab_dump.proofs.Round.WrittenFields.{spaced, fields_spaced, fields_word, words_last, joined_spaced, read_back, all_words, spaced_map}
+use Rattle.fab_text.proofs.Words.{IsWord, high_word}
+use Rattle.fab_dump.proofs.Round.WrittenFields.{spaced, fields_spaced, fields_word, joined_spaced, read_back, all_words, spaced_map, parts_spaced, all_kept}
 use Rattle.fab_text.proofs.SpelledFields.{dec_up_to_spelled}
 use Rattle.fab_text.proofs.Spelled.{length-last}
 use Rattle.fab_dump.proofs.Round.WrittenNumbers.{lid_read, guid_read, length-port, two_spelled, hex4_high, hex16_high, port_high, two_high}
@@ -59,12 +59,7 @@ two_word n = high_word (two n) (two_high n) (omega (arith, length-last 10 2 n))
 
 -- words behind one another
 pub words_spaced : (word : List ℕ) (words : List (List ℕ)) → IsWord word → All IsWord words → without_empty (parts (word ++ spaced words)) ≡ word ∷ words
-words_spaced word [] h all = ap (λ bytes. without_empty (parts bytes)) (append-nil word) ∙ words_last word h
-words_spaced word (next ∷ words) h all =
-    words_more word (next ++ spaced words) h ∙ ap (λ ws. word ∷ ws) (words_spaced next words (All-head IsWord next words all) (tail next words all))
-  where
-    tail : (next : List ℕ) (words : List (List ℕ)) → All IsWord (next ∷ words) → All IsWord words
-    tail next words all = λ k d low. all (suc k) d (omega arith)
+words_spaced word words h all = ap without_empty (parts_spaced word words h.solid all) ∙ all_kept (word ∷ words) (All-cons IsWord word words h all)
 
 -- digits differ from a text that begins with no digit
 pub digits_differ : (bytes : List ℕ) (first : ℕ) (others : List ℕ) → list_all (λ byte. is_digit byte 10) bytes ≡ true → 0 < length bytes → is_digit first 10 ≡ false → bytes_eq bytes (first ∷ others) ≡ false

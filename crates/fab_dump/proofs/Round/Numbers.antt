@@ -3,9 +3,8 @@ use Rattle.std.proofs.Common.{◌≡◌, ℕ, zero, suc, ◌+◌, ◌^◌, ◌<�
 use Rattle.std.specs.Prelude.{All, ◌==◌, ◌&&◌, flat_map, slice_get, is_some, if◌then◌else◌}
 use Rattle.std.specs.List.{enumerate_from, range_with_len}
 use Rattle.std.proofs.lemmas.Bool.{cond_both, cases_lt, eqb-false}
-use Rattle.std.proofs.lemmas.List.{append_assoc, append-nil, map-id, get_or_past}
-use Rattle.std.proofs.lemmas.List.Concat.{flat_map-append}
-use Rattle.std.proofs.lemmas.List.FromFn.{map-range_with_len_more, length-range_with_len, get_or-range_with_len}
+use Rattle.std.proofs.lemmas.List.{append_assoc, append-nil, get_or_past}
+use Rattle.std.proofs.lemmas.List.FromFn.{length-range_with_len, get_or-range_with_len}
 use Rattle.std.proofs.lemmas.List.Elements.{All-nil, All-cons, All-append, All-get_or}
 use Rattle.fab_model.specs.declared.rows.ChannelRow.{ChannelRow}
 use Rattle.fab_model.specs.Topology.{Topology, guid_of}
@@ -26,6 +25,7 @@ use Rattle.fab_dump.proofs.Round.Writes.{all_flat_map, all_parts}
 use Rattle.fab_dump.proofs.Round.Fresh.{Spoken, Within, further, Apart, not_given_more, new_certificate, new_number, other_number}
 use Rattle.fab_dump.proofs.Round.Leads.{Leads, leads_none, leads_line, leads_then, adds_new, Went, went_then, went_rows, each_row}
 use Rattle.fab_dump.proofs.Round.Maps.{maps_spoken}
+use Rattle.fab_dump.proofs.Writing.Rows.{flat_map-range_more}
 
 abbrev pub numbers_spoken : ℕ → ℕ → Spoken
 numbers_spoken n c = record { tables = n; levels = n; maps = n; certificates = 1; numbers = c }
@@ -34,12 +34,6 @@ numbers_spoken n c = record { tables = n; levels = n; maps = n; certificates = 1
 pub record HasNumbers (n c : ℕ) (s : State) : Type 0 where
   pub within : All (Within (numbers_spoken n c)) s.given
   pub block : s.open_block ≡ Numbers
-
-range_more : (n : ℕ) → range_with_len 0 (n + 1) ≡ range_with_len 0 n ++ n ∷ []
-range_more n = sym (map-id (range_with_len 0 (n + 1))) ∙ map-range_with_len_more (λ (k : ℕ). k) 0 n n (omega arith) ∙ ap (λ (xs : List ℕ). xs ++ n ∷ []) (map-id (range_with_len 0 n))
-
-one_part_more : {A : Type 0} (of : ℕ → List A) (n : ℕ) → flat_map of (range_with_len 0 (n + 1)) ≡ flat_map of (range_with_len 0 n) ++ of n
-one_part_more of n = ap (flat_map of) (range_more n) ∙ flat_map-append of (range_with_len 0 n) (n ∷ []) ∙ ap (λ xs. flat_map of (range_with_len 0 n) ++ xs) (append-nil (of n))
 
 module _ (t : Topology) (f : Form) (fabric : IsFabric t) (long : IsLong f.version) where
   certificate_went : is_some f.count ≡ true → (n : ℕ) (s : State) → All (Within (maps_spoken n n)) s.given → WaitsForNone s.open_block → Went t f s (codes "Certificate:" ∷ []) (Certificate ∷ []) (HasNumbers n 0)
@@ -109,12 +103,12 @@ module _ (t : Topology) (f : Form) (fabric : IsFabric t) (long : IsLong f.versio
         (subst (λ b. Leads t f s [] (record { open_block = b; given = s.given })) so_far.block (leads_none t f s))
     lanes_lead (suc j) h =
         subst (λ i. Leads t f s (flat_map (number_line t l (c, row)) (range_with_len 0 i)) (after i)) (add-one j)
-        (subst (λ ls. Leads t f s ls (after (j + 1))) (sym (one_part_more (number_line t l (c, row)) j))
+        (subst (λ ls. Leads t f s ls (after (j + 1))) (sym (flat_map-range_more (number_line t l (c, row)) j))
         (leads_then t f s (after j) (after (j + 1)) (flat_map (number_line t l (c, row)) (range_with_len 0 j)) (number_line t l (c, row) j) (lanes_lead j (omega (arith, h)))
         (subst (λ (g : List Given). Leads t f (after j) (number_line t l (c, row) j) (record { open_block = Numbers; given = g })) more (lane_leads j (omega (arith, h))))))
       where
         more : (s.given ++ flat_map (number_of l c) (range_with_len 0 j)) ++ number_of l c j ≡ s.given ++ flat_map (number_of l c) (range_with_len 0 (j + 1))
-        more = append_assoc s.given (flat_map (number_of l c) (range_with_len 0 j)) (number_of l c j) ∙ ap (λ gs. s.given ++ gs) (sym (one_part_more (number_of l c) j))
+        more = append_assoc s.given (flat_map (number_of l c) (range_with_len 0 j)) (number_of l c j) ∙ ap (λ gs. s.given ++ gs) (sym (flat_map-range_more (number_of l c) j))
 
     numbers_within : All (Within (numbers_spoken m (c + 1))) (s.given ++ numbers_said l (c, row))
     numbers_within = All-append (Within (numbers_spoken m (c + 1))) s.given (numbers_said l (c, row))

@@ -85,11 +85,11 @@ module _ (k : ℕ) where
 pub of_none : (pairs : List PairRow) → of_earlier pairs 0 ≡ []
 of_none pairs = kept_none (λ (p : PairRow). nat_lt p.switch.0 0) pairs (λ i d low. le-ltb (get_or pairs i d).switch.0 0 (omega arith))
 
-pub of_all : (switches : ℕ) (pairs : List PairRow) → All (IsPairRow switches) pairs → of_earlier pairs switches ≡ pairs
+of_all : (switches : ℕ) (pairs : List PairRow) → All (IsPairRow switches) pairs → of_earlier pairs switches ≡ pairs
 of_all switches pairs rows = kept_all (λ (p : PairRow). nat_lt p.switch.0 switches) pairs (λ i d low. lt-ltb (get_or pairs i d).switch.0 switches (rows i d low).switch)
 
 -- all switches
-pub of_numbered : {X : Type 0} (pairs : List PairRow) → AllPairs SwitchNotAfter pairs → (from : ℕ) (rows : List X) →
+of_numbered : {X : Type 0} (pairs : List PairRow) → AllPairs SwitchNotAfter pairs → (from : ℕ) (rows : List X) →
     of_earlier pairs from ++ flat_map (λ (s : ℕ × X). filter (is_of_switch s.0) pairs) (enumerate_from from rows) ≡ of_earlier pairs (from + length rows)
 of_numbered pairs up from [] = append-nil (of_earlier pairs from) ∙ ap (λ k. of_earlier pairs k) none
   where
@@ -103,6 +103,14 @@ of_numbered {X} pairs up from (row ∷ rows) =
   where
     more : from + 1 + length rows ≡ from + suc (length rows)
     more = omega arith
+
+-- the pairs of the switches of a fabric are all
+pub of_fabric : {X : Type 0} (rows : List X) (switches : ℕ) (pairs : List PairRow) → switches ≡ length rows → IsStrictlyIncreasing (map pair_key pairs) → All (IsPairRow switches) pairs →
+    flat_map (λ (s : ℕ × X). filter (is_of_switch s.0) pairs) (enumerate_from 0 rows) ≡ pairs
+of_fabric {X} rows switches pairs is up are =
+    let count : 0 + length rows ≡ switches = omega (arith, is) in
+    ap (λ (ps : List PairRow). ps ++ flat_map (λ (s : ℕ × X). filter (is_of_switch s.0) pairs) (enumerate_from 0 rows)) (sym (of_none pairs))
+    ∙ of_numbered pairs (switches_are_rising switches pairs up are) 0 rows ∙ ap (λ (k : ℕ). of_earlier pairs k) count ∙ of_all switches pairs are
 
 -- a pair behind all
 placed_last : (pairs : List PairRow) (p : PairRow) → All (λ (q : PairRow). KeyBefore q p) pairs → with_pair_row pairs p ≡ pairs ++ p ∷ []

@@ -89,7 +89,7 @@ module _ (t : Topology) (fabric : IsFabric t) where
       ∙ ap (after_line t (form_of p.lanes) w.now (λ next. read_lines t (form_of p.lanes) (n + 1) next [])) (end_said t (form_of p.lanes) n w.now (written_long p.lanes) w.holds)
       ∙ ap (λ (g : List Given). Ok (plan_given t (count_of p.lanes) g)) w.given
 
-few_lanes : (t : Topology) (lanes : Option LaneTables) → IfSome lanes (LanesFit t) → IfSome lanes (λ l. (0 < l.count) × (l.count ≤ 15))
+pub few_lanes : (t : Topology) (lanes : Option LaneTables) → IfSome lanes (LanesFit t) → IfSome lanes (λ l. (0 < l.count) × (l.count ≤ 15))
 few_lanes t None fit = tt
 few_lanes t (Some l) fit = fit.whole.count
 

@@ -5,6 +5,7 @@ use Rattle.std.specs.List.{enumerate_from, range_with_len}
 use Rattle.std.proofs.lemmas.Bool.{cases_eq}
 use Rattle.std.proofs.lemmas.List.{length-set, get_or-set_same, get_or-set_other, ext_get_or}
 use Rattle.std.proofs.lemmas.List.Elements.{All-nil, All-head, All-tail, All-append}
+use Rattle.fab_tables.proofs.Rows.Cells.{unsome}
 
 -- ---- what stands in a list
 
@@ -34,9 +35,6 @@ Has-flat_map f x (z ∷ xs) y (inr h) k = Has-right y (f z) (flat_map f xs) (Has
 pub Has-at : {A : Type 0} (xs : List A) (i : ℕ) (x : A) → slice_get xs i ≡ Some x → Has x xs
 Has-at [] i x e = cc
 Has-at (y ∷ xs) zero x e = inl (unsome y x e)
-  where
-    unsome : {A : Type 0} (a b : A) → Some a ≡ Some b → a ≡ b
-    unsome a b e = cc
 Has-at (y ∷ xs) (suc i) x e = inr (Has-at xs i x e)
 
 pub Has-numbered : {A : Type 0} (from : ℕ) (xs : List A) (i : ℕ) (x : A) → slice_get xs i ≡ Some x → Has (from + i, x) (enumerate_from from xs)
@@ -45,9 +43,6 @@ Has-numbered from (y ∷ xs) zero x e = inl (ap (λ n. (n, y)) start ∙ ap (λ 
   where
     start : from ≡ from + 0
     start = omega arith
-
-    unsome : {A : Type 0} (a b : A) → Some a ≡ Some b → a ≡ b
-    unsome a b e = cc
 Has-numbered from (y ∷ xs) (suc i) x e = inr (subst (λ n. Has (n, x) (enumerate_from (from + 1) xs)) next (Has-numbered (from + 1) xs i x e))
   where
     next : from + 1 + i ≡ from + suc i

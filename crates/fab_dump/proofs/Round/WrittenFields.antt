@@ -27,7 +27,7 @@ kept_word : (word : List ℕ) (others : List (List ℕ)) → 0 < length word →
 kept_word [] others h = absurd (omega arith)
 kept_word (b ∷ bs) others h = ap (λ v. cond (not v) ((b ∷ bs) ∷ without_empty others) (without_empty others)) (ne_eqb (length (b ∷ bs)) 0 (λ e. omega (arith, e)))
 
-all_kept : (words : List (List ℕ)) → All IsWord words → without_empty words ≡ words
+pub all_kept : (words : List (List ℕ)) → All IsWord words → without_empty words ≡ words
 all_kept [] h = refl
 all_kept (word ∷ words) h = kept_word word words (All-head IsWord word words h).some ∙ ap (λ ws. word ∷ ws) (all_kept words (All-tail IsWord word words h))
 
@@ -35,7 +35,7 @@ all_kept (word ∷ words) h = kept_word word words (All-head IsWord word words h
 abbrev pub spaced : List (List ℕ) → List ℕ
 spaced words = flat_map (λ word. 32 ∷ word) words
 
-parts_spaced : (word : List ℕ) (words : List (List ℕ)) → All (λ byte. is_blank byte ≡ false) word → All IsWord words → parts (word ++ spaced words) ≡ word ∷ words
+pub parts_spaced : (word : List ℕ) (words : List (List ℕ)) → All (λ byte. is_blank byte ≡ false) word → All IsWord words → parts (word ++ spaced words) ≡ word ∷ words
 parts_spaced word [] h all = ap parts (append-nil word) ∙ parts_last word h
 parts_spaced word (next ∷ words) h all =
     parts_word word (next ++ spaced words) h ∙ ap (λ ps. word ∷ ps) (parts_spaced next words (All-head IsWord next words all).solid (All-tail IsWord next words all))

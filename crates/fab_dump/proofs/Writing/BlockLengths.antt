@@ -4,17 +4,18 @@ use Rattle.std.specs.Prelude.{All, flat_map, filter, ◌==◌}
 use Rattle.std.specs.List.{enumerate_from, range_with_len}
 use Rattle.std.proofs.lemmas.Bool.{cond_both}
 use Rattle.std.proofs.lemmas.List.{length-append}
-use Rattle.std.proofs.lemmas.List.FromFn.{length-range_with_len, length-map-range_with_len}
+use Rattle.std.proofs.lemmas.List.FromFn.{length-range_with_len}
 use Rattle.std.proofs.lemmas.List.Elements.{All-head, All-tail, All-filter}
 use Rattle.fab_model.specs.declared.rows.SwitchRow.{SwitchRow}
 use Rattle.fab_model.specs.declared.rows.ChannelRow.{ChannelRow}
 use Rattle.fab_model.specs.Topology.{Topology, lids_of, is_source, guid_of}
 use Rattle.fab_tables.specs.declared.lanes.PairRow.{PairRow}
 use Rattle.fab_tables.specs.Entries.{Entries, entry}
-use Rattle.fab_tables.specs.LaneTables.{LaneTables, level, lane, number}
+use Rattle.fab_tables.specs.LaneTables.{LaneTables, level, number}
 use Rattle.fab_dump.specs.Lines.{levels_head, map_head}
 use Rattle.fab_dump.specs.Writing.{port3, level2, table_head_text, block_rows, table_block, guid_head_text, levels_block, general_map, lanes_text, general_block, is_of_switch, pair_rows, pair_text, map_block, number_text, number_line, number_lines}
 use Rattle.fab_dump.proofs.Round.WrittenNumbers.{length-port}
+use Rattle.fab_dump.proofs.Writing.Lanes.{general_long}
 use Rattle.fab_dump.proofs.Writing.LineLengths.{size, size_none, size_cons, size_one, size_append, size_map, size_flat_map, length-level, length-guid_head, block_length, table_head_length, lanes_length, pair_length, number_length}
 
 -- a switch as its head says it
@@ -47,13 +48,9 @@ module _ (t : Topology) (few : length (lids_of t) ≤ 16384) where
 
 -- ---- lane maps
 
-all_levels : (l : LaneTables) (s : ℕ) → length (general_map l s) ≡ 16
-unfolding general_map
-all_levels l s = length-map-range_with_len (λ of_level. lane l s of_level) 0 16
-
 general_size : (l : LaneTables) (s guid : ℕ) → size (general_block l s guid) ≤ 93
 general_size l s guid =
-    omega (arith, size_cons (guid_head_text map_head guid) (lanes_text (general_map l s) ∷ []), size_one (lanes_text (general_map l s)), length-guid_head map_head guid, lanes_length (general_map l s), all_levels l s)
+    omega (arith, size_cons (guid_head_text map_head guid) (lanes_text (general_map l s) ∷ []), size_one (lanes_text (general_map l s)), length-guid_head map_head guid, lanes_length (general_map l s), general_long l s)
 
 abbrev pub HasAllLevels : PairRow → Type 0
 HasAllLevels p = length p.map ≡ 16

@@ -1,22 +1,22 @@
 -- The text of a plan that fits is within what a plan's file may hold.
-use Rattle.std.proofs.Common.{◌≡◌, ℕ, ◌+◌, ◌<◌, ◌≤◌, List, [], ◌∷◌, ◌++◌, length, codes, None, Some, Option, IfSome, sym, ◌∙◌, ap, arith}
+use Rattle.std.proofs.Common.{ℕ, ◌<◌, ◌≤◌, List, [], ◌∷◌, ◌++◌, length, codes, None, Some, Option, IfSome, ap, arith}
 use Rattle.std.specs.Prelude.{All, flat_map, ◌==◌}
 use Rattle.std.specs.List.{enumerate_from}
 use Rattle.std.proofs.lemmas.Bool.{cond_both}
-use Rattle.fab_model.specs.Topology.{Topology, lids_of}
+use Rattle.fab_model.specs.Topology.{Topology}
 use Rattle.fab_model.specs.WellFormed.{IsFabric}
-use Rattle.fab_model.proofs.Order.{lids_are_counted}
 use Rattle.fab_tables.specs.declared.plan.Plan.{Plan}
-use Rattle.fab_tables.specs.declared.lanes.PairRow.{PairRow}
 use Rattle.fab_tables.specs.Entries.{Entries}
 use Rattle.fab_tables.specs.LaneTables.{LaneTables}
 use Rattle.fab_tables.specs.Fit.{LanesFit, PlanFits}
 use Rattle.fab_dump.specs.Writing.{plan_lines, version_text, version_of, lanes_line, table_block, levels_block, map_block, number_lines, lane_lines, lane_part}
 use Rattle.fab_dump.specs.Laws.{WrittenIsShort}
 use Rattle.fab_dump.proofs.Round.Lines.{number_fits}
-use Rattle.fab_dump.proofs.Round.Pairs.{of_earlier, of_none, of_all, of_numbered, switches_are_rising}
+use Rattle.fab_dump.proofs.Round.Pairs.{of_fabric}
+use Rattle.fab_dump.proofs.Round.Texts.{few_lanes}
+use Rattle.fab_dump.proofs.Writing.Rows.{few_lids}
 use Rattle.fab_dump.proofs.Writing.LineLengths.{size, size_none, size_cons, size_one, size_append, lid_length}
-use Rattle.fab_dump.proofs.Writing.BlockLengths.{HasShortHead, HasAllLevels, size_numbered, table_size, levels_size, pairs_by_switch, maps_size, numbers_size}
+use Rattle.fab_dump.proofs.Writing.BlockLengths.{HasShortHead, HasAllLevels, size_numbered, table_size, levels_size, maps_size, numbers_size}
 
 -- ---- the first two lines
 
@@ -36,32 +36,19 @@ lanes_line_length (Some l) few = omega (arith, lid_length l.count (omega (arith,
 -- ---- the parts
 
 module _ (t : Topology) (fabric : IsFabric t) where
-  few_lids : length (lids_of t) ≤ 16384
-  few_lids = omega (arith, lids_are_counted t, fabric.rows.lid_count)
-
   short_heads : All HasShortHead t.switches
   short_heads = λ k d h. (omega (arith, (fabric.rows.switch_lids k d h).1), (fabric.types.switch_descriptions k d h).within)
 
   tables_short : (e : Entries) → size (flat_map (table_block t e) (enumerate_from 0 t.switches)) ≤ 138176512
-  tables_short e = omega (arith, fabric.rows.switch_count, size_numbered (table_block t e) HasShortHead 67469 (λ s row short. table_size t few_lids e s row short) 0 t.switches short_heads)
+  tables_short e = omega (arith, fabric.rows.switch_count, size_numbered (table_block t e) HasShortHead 67469 (λ s row short. table_size t (few_lids t fabric) e s row short) 0 t.switches short_heads)
 
   levels_short : (l : LaneTables) → size (flat_map (levels_block t l) (enumerate_from 0 t.switches)) ≤ 104419328
-  levels_short l = omega (arith, fabric.rows.switch_count, size_numbered (levels_block t l) (λ row. Unit {0}) 50986 (λ s row any. levels_size t few_lids l s row) 0 t.switches (λ k d h. tt))
-
-  pairs_counted : (l : LaneTables) → LanesFit t l → pairs_by_switch l.pairs 0 t.switches ≡ l.pairs
-  pairs_counted l fit =
-      ap (λ (some : List PairRow). some ++ pairs_by_switch l.pairs 0 t.switches) (sym (of_none l.pairs))
-      ∙ of_numbered l.pairs (switches_are_rising l.switches l.pairs fit.whole.in_order fit.whole.pairs) 0 t.switches
-      ∙ ap (of_earlier l.pairs) all
-      ∙ of_all l.switches l.pairs fit.whole.pairs
-    where
-      all : 0 + length t.switches ≡ l.switches
-      all = omega (arith, fit.switches)
+  levels_short l = omega (arith, fabric.rows.switch_count, size_numbered (levels_block t l) (λ row. Unit {0}) 50986 (λ s row any. levels_size t (few_lids t fabric) l s row) 0 t.switches (λ k d h. tt))
 
   maps_short : (l : LaneTables) → LanesFit t l → size (flat_map (map_block l) (enumerate_from 0 t.switches)) ≤ 4057088
   maps_short l fit =
       let all : All HasAllLevels l.pairs = λ k d h. (fit.whole.pairs k d h).levels in
-      omega (arith, fabric.rows.switch_count, maps_size l all 0 t.switches, ap length (pairs_counted l fit), fit.whole.few_pairs)
+      omega (arith, fabric.rows.switch_count, maps_size l all 0 t.switches, ap length (of_fabric t.switches l.switches l.pairs fit.switches fit.whole.in_order fit.whole.pairs), fit.whole.few_pairs)
 
   numbers_short : (l : LaneTables) → LanesFit t l → size (flat_map (number_lines t l) (enumerate_from 0 t.channels)) ≤ 288706560
   numbers_short l fit =
@@ -77,10 +64,6 @@ module _ (t : Topology) (fabric : IsFabric t) where
   part_short : (lanes : Option LaneTables) → IfSome lanes (LanesFit t) → size (lane_part t lanes) ≤ 397182989
   part_short None fit = omega (arith, size_none)
   part_short (Some l) fit = lanes_short l fit
-
-few_lanes : (t : Topology) (lanes : Option LaneTables) → IfSome lanes (LanesFit t) → IfSome lanes (λ l. (0 < l.count) × (l.count ≤ 15))
-few_lanes t None fit = tt
-few_lanes t (Some l) fit = fit.whole.count
 
 lines_short : (t : Topology) (p : Plan) → IsFabric t → PlanFits t p → size (plan_lines t p) ≤ 536870912
 lines_short t p fabric fit =

@@ -43,12 +43,15 @@ range_more n = sym (map-id (range_with_len 0 (n + 1))) ∙ map-range_with_len_mo
 flat_map-one : {X A : Type 0} (f : X → List A) (xs : List X) (x : X) → flat_map f (xs ++ x ∷ []) ≡ flat_map f xs ++ f x
 flat_map-one f xs x = flat_map-append f xs (x ∷ []) ∙ ap (λ rest. flat_map f xs ++ rest) (append-nil (f x))
 
+pub flat_map-range_more : {A : Type 0} (f : ℕ → List A) (n : ℕ) → flat_map f (range_with_len 0 (n + 1)) ≡ flat_map f (range_with_len 0 n) ++ f n
+flat_map-range_more f n = ap (flat_map f) (range_more n) ∙ flat_map-one f (range_with_len 0 n) n
+
 -- and where a number has any count of lines
 pub lines_of_number : (lines : ℕ → List (List ℕ)) (n : ℕ) (before old now : List ℕ) → old ≡ before ++ lines_text (flat_map lines (range_with_len 0 n)) → now ≡ old ++ lines_text (lines n)
     → now ≡ before ++ lines_text (flat_map lines (range_with_len 0 (n + 1)))
 lines_of_number lines n before old now e f =
     lines_added (flat_map lines (range_with_len 0 n)) (lines n) (flat_map lines (range_with_len 0 (n + 1))) before old now e f
-    (ap (λ (numbers : List ℕ). flat_map lines numbers) (range_more n) ∙ flat_map-one lines (range_with_len 0 n) n)
+    (flat_map-range_more lines n)
 
 -- ---- a row of LIDs
 

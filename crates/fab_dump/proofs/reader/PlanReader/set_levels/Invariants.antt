@@ -1,11 +1,8 @@
-use Rattle.std.proofs.Common.{◌≡◌, ◌++◌, take, drop}
-use Rattle.std.specs.List.{zip}
-use Rattle.fab_model.specs.Topology.{lids_of, switch_id}
+use Rattle.std.proofs.Common.{◌≡◌}
 use Rattle.fab_dump.specs.declared.form.Block.TheVariants.{Levels}
-use Rattle.fab_dump.specs.Given.{said_of}
 use Rattle.fab_dump.specs.Given.Given.{Level}
-use Rattle.fab_dump.specs.Lines.{Form, State}
-use Rattle.fab_dump.specs.Standing.{ReaderFits, Stands}
+use Rattle.fab_dump.specs.Standing.{ReaderFits}
+use Rattle.fab_dump.proofs.Reading.LongRows.{ToldSoFar}
 use Rattle.fab_dump.proofs.reader.PlanReader.set_levels.Given as goal
 
 abbrev pub invariant-loop-index : goal.invariant-loop-index
@@ -13,6 +10,5 @@ invariant-loop-index l = record {
   fits : ReaderFits l.self;
   fabric : l.self.fabric.now ≡ l.initial.self.fabric.now;
   block : l.self.block ≡ Levels l.switch;
-  stands : (f : Form) (s : State) → Stands l.initial.self.fabric.now f s l.initial.self →
-      Stands l.initial.self.fabric.now f (record { open_block = Levels (switch_id l.switch.0); given = s.given ++ take l.index (said_of (Level l.switch.0) (zip (drop l.first (lids_of l.initial.self.fabric.now)) l.levels)) }) l.self;
+  told : ToldSoFar l.initial.self l.self (Levels l.switch) (Level l.switch.0) l.first l.levels l.index;
 }

@@ -1,22 +1,14 @@
-use Rattle.std.proofs.Common.{◌∷◌, [], ◌++◌, Some, true, sym, ap, subst, ◌∙◌, arith}
-use Rattle.std.specs.Prelude.{slice_get}
-use Rattle.std.specs.Vec.{with_item}
-use Rattle.fab_model.specs.Topology.{Topology, lids_of, switch_id}
+use Rattle.std.proofs.Common.{Some, sym, ◌∙◌, arith}
+use Rattle.fab_model.specs.Topology.{lids_of}
 use Rattle.fab_model.proofs.LidsInUse.{as_many, contains_lid}
 use Rattle.fab_dump.specs.declared.form.Block.TheVariants.{Table}
 use Rattle.fab_dump.specs.Given.Given.{Port}
-use Rattle.fab_dump.specs.Standing.{Stands}
-use Rattle.fab_dump.proofs.Reading.AfterRows.{after_port_at}
+use Rattle.fab_dump.proofs.Reading.AfterRows.{tells_ports, after_value_at}
 use Rattle.fab_dump.proofs.reader.PlanReader.set_port.Goals as goal
 
 pub returns-clause-stands : goal.returns-clause-stands
-returns-clause-stands c = λ t f s lid got stands.
-    let r = c.args.self.now in
-    let here = subst (λ (x : Topology). Stands x f s r) (sym stands.same) stands in
-    let there = ap (λ (x : Topology). slice_get (lids_of x) c.args.place) stands.same ∙ got in
-    subst (λ (x : Topology). Stands x f (record { open_block = Table (Some (switch_id c.args.switch.0)); given = s.given ++ Port c.args.switch.0 lid c.args.port ∷ [] }) (record r { plan = c.give_port.new.plan; lids_read = with_item r.lids_read c.args.place true })) stands.same
-    (after_port_at f s r here c.lids_in_use.result.now _ c.args.switch lid c.args.port c.args.place c.give_port.new.plan c.lids_in_use.ensures.lids (omega (arith, as_many c.lids_in_use.result.now (lids_of r.fabric.now) c.lids_in_use.ensures.lids, c.requires.within)) there c.requires.block
-    (omega (arith, c.requires.within, c.requires.fits.row_marks)) c.give_port.ensures)
+returns-clause-stands c =
+    after_value_at c.args.self.now (Table (Some c.args.switch)) (Port c.args.switch.0) 0 (tells_ports (lids_of c.args.self.now.fabric.now) c.args.switch) c.requires.block c.requires.fits c.lids_in_use.result.now _ c.args.port c.args.place c.give_port.new.plan c.lids_in_use.ensures.lids c.requires.within c.give_port.ensures
 
 pub give_port-requires-clause-in_use : goal.give_port-requires-clause-in_use
 give_port-requires-clause-in_use c =

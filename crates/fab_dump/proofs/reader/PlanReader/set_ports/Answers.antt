@@ -1,12 +1,8 @@
-use Rattle.std.proofs.Common.{ℕ, length, refl, ap, ◌∙◌, Some, arith, drop}
-use Rattle.std.specs.List.{zip}
-use Rattle.std.proofs.lemmas.List.{length-map}
-use Rattle.std.proofs.lemmas.Slice.Zip.{length-zip}
-use Rattle.fab_model.specs.Topology.{Topology, lids_of, switch_id}
+use Rattle.std.proofs.Common.{length, refl, ap, ◌∙◌, Some, arith}
+use Rattle.fab_model.specs.Topology.{Topology, lids_of}
 use Rattle.fab_dump.specs.declared.form.Block.TheVariants.{Table}
-use Rattle.fab_dump.specs.Given.{said_of}
 use Rattle.fab_dump.specs.Given.Given.{Port}
-use Rattle.fab_dump.proofs.Reading.LongRows.{none_said, all_said, one_value_said}
+use Rattle.fab_dump.proofs.Reading.LongRows.{told_none, told_one, told_all}
 use Rattle.fab_dump.proofs.reader.PlanReader.set_ports.Goals as goal
 
 pub loop-index-init : goal.loop-index-init
@@ -14,7 +10,7 @@ loop-index-init c = record {
   fits = c.requires.fits;
   fabric = refl;
   block = c.requires.block;
-  stands = λ f s stands. none_said c.args.self.now.fabric.now f s c.args.self.now (Table (Some (switch_id c.args.switch.0))) (said_of (Port c.args.switch.0) (zip (drop c.args.first (lids_of c.args.self.now.fabric.now)) c.args.ports.now)) c.requires.block stands;
+  told = told_none c.args.self.now (Table (Some c.args.switch)) (Port c.args.switch.0) c.args.first c.args.ports.now c.requires.block;
 }
 
 pub loop-index-preserved : goal.loop-index-preserved
@@ -22,18 +18,11 @@ loop-index-preserved c = record {
   fits = c.set_port.ensures.fits;
   fabric = c.set_port.ensures.fabric ∙ c.loop-index.invariant.fabric;
   block = c.set_port.ensures.block;
-  stands = λ f s stands.
-      one_value_said c.args.self.now.fabric.now f s c.set_port.new.self (Table (Some (switch_id c.args.switch.0))) (Port c.args.switch.0) 0 c.args.first c.args.ports.now c.loop-index.index c.requires.within (omega arith)
-      (λ lid got. c.set_port.ensures.stands c.args.self.now.fabric.now f _ lid got (c.loop-index.invariant.stands f s stands));
+  told = told_one c.args.self.now (Table (Some c.args.switch)) (Port c.args.switch.0) c.args.first c.args.ports.now c.loop-index.self c.set_port.new.self 0 c.loop-index.index c.requires.within (omega arith) c.set_port.ensures.stands c.loop-index.invariant.told;
 }
 
 pub returns : goal.returns
-returns c = λ f s stands.
-    let lids = lids_of c.args.self.now.fabric.now in
-    let all = said_of (Port c.args.switch.0) (zip (drop c.args.first lids) c.args.ports.now) in
-    all_said c.args.self.now.fabric.now f s c.loop-index.self (Table (Some (switch_id c.args.switch.0))) all c.loop-index.index
-    (omega (arith, length-map (zip (drop c.args.first lids) c.args.ports.now) (λ (row : ℕ × ℕ). Port c.args.switch.0 row.0 row.1), length-zip (drop c.args.first lids) c.args.ports.now))
-    (c.loop-index.invariant.stands f s stands)
+returns c = told_all c.args.self.now (Table (Some c.args.switch)) (Port c.args.switch.0) c.args.first c.args.ports.now c.loop-index.self c.loop-index.index (omega arith) c.loop-index.invariant.told
 
 pub set_port-requires-clause-within : goal.set_port-requires-clause-within
 set_port-requires-clause-within c =

@@ -1,42 +1,21 @@
-use Rattle.std.proofs.Common.{◌≡◌, ◌∙◌, sym, ap, Some, false, arith, ◌<◌, length, []}
-use Rattle.std.proofs.lemmas.List.{get_or_read}
-use Rattle.fab_model.specs.Topology.{lids_of, switch_id}
+use Rattle.std.proofs.Common.{Some, sym, ap, ◌∙◌}
+use Rattle.fab_model.specs.Topology.{lids_of}
 use Rattle.fab_tables.specs.Entries.{index_of}
-use Rattle.fab_dump.specs.declared.fault.PlanFault.TheVariants.{TwiceRow, BadRow}
+use Rattle.fab_dump.specs.declared.fault.PlanFault.TheVariants.{BadRow}
 use Rattle.fab_dump.specs.declared.form.Block.TheVariants.{Table}
 use Rattle.fab_dump.specs.Given.Given.{Port}
 use Rattle.fab_dump.specs.Lines.Next.{Goes}
-use Rattle.fab_dump.proofs.Reading.ShortRows.{row_in_use, has_place}
-use Rattle.fab_dump.proofs.Reading.AfterRows.{after_port, port_mark}
-use Rattle.fab_dump.proofs.Reading.AfterHeads.{new_added, old_refused}
+use Rattle.fab_dump.proofs.Reading.AfterRows.{tells_ports}
+use Rattle.fab_dump.proofs.Reading.ShortRows.{short_twice, short_goes, has_place}
 use Rattle.fab_dump.proofs.reader.PlanReader.short_table_row.Goals as goal
 
 pub returns-then-index : goal.returns-then-index
-returns-then-index c = λ f s stands orderly.
-    let t = c.args.self.now.fabric.now in
-    let lid = c.in-Some.lid in
-    let place = c.in-Some-place.place in
-    let found : Some place ≡ index_of lid (lids_of t) = c.in-Some-place.ensures.place ∙ ap (index_of lid) c.requires.fits.lids in
-    let within : place < length c.args.self.now.lids_read.items = omega (arith, c.in-Some-place.ensures.within, ap length c.requires.fits.lids, c.requires.fits.row_marks) in
-    let read = get_or_read c.args.self.now.lids_read.items place c.index.result.now within c.index.ensures false in
-    let mark = port_mark f s c.args.self.now stands c.args.switch place c.index.result.now c.requires.block read lid c.in-Some.port (sym found) in
-    row_in_use t (BadRow c.args.line) (Goes s) c.args.line s (Table (Some (switch_id c.args.switch.0))) (Port c.args.switch.0) lid c.in-Some.port place _ c.in-Some.ensures found
-    ∙ old_refused (TwiceRow c.args.line) s (Table (Some (switch_id c.args.switch.0))) (Port c.args.switch.0 lid c.in-Some.port) [] (sym mark ∙ c.if-index.true)
+returns-then-index c = λ f s stands orderly. short_twice f s c.args.self.now stands (Table (Some c.args.switch)) (Port c.args.switch.0) 0 (tells_ports (lids_of c.args.self.now.fabric.now) c.args.switch) c.requires.block (BadRow c.args.line) (Goes s) c.args.line c.in-Some.lid c.in-Some.port c.in-Some-place.place _ c.index.result.now c.in-Some.ensures
+    c.in-Some-place.ensures.place c.in-Some-place.ensures.within c.index.ensures c.if-index.true
 
 pub returns : goal.returns
-returns c = λ f s stands orderly.
-    let t = c.args.self.now.fabric.now in
-    let lid = c.in-Some.lid in
-    let place = c.in-Some-place.place in
-    let found : Some place ≡ index_of lid (lids_of t) = c.in-Some-place.ensures.place ∙ ap (index_of lid) c.requires.fits.lids in
-    let within : place < length c.args.self.now.lids_read.items = omega (arith, c.in-Some-place.ensures.within, ap length c.requires.fits.lids, c.requires.fits.row_marks) in
-    let read = get_or_read c.args.self.now.lids_read.items place c.index.result.now within c.index.ensures false in
-    let mark = port_mark f s c.args.self.now stands c.args.switch place c.index.result.now c.requires.block read lid c.in-Some.port (sym found) in (
-      _,
-      row_in_use t (BadRow c.args.line) (Goes s) c.args.line s (Table (Some (switch_id c.args.switch.0))) (Port c.args.switch.0) lid c.in-Some.port place _ c.in-Some.ensures found
-          ∙ new_added (TwiceRow c.args.line) s (Table (Some (switch_id c.args.switch.0))) (Port c.args.switch.0 lid c.in-Some.port) (sym mark ∙ c.if-index.false),
-      after_port f s c.args.self.now stands c.args.switch lid c.in-Some.port place c.give_port.new.plan c.requires.block (sym found) within c.give_port.ensures,
-    )
+returns c = λ f s stands orderly. short_goes f s c.args.self.now stands (Table (Some c.args.switch)) (Port c.args.switch.0) 0 (tells_ports (lids_of c.args.self.now.fabric.now) c.args.switch) c.requires.block (BadRow c.args.line) (Goes s) c.args.line c.in-Some.lid c.in-Some.port c.in-Some-place.place _ c.index.result.now c.in-Some.ensures
+    c.in-Some-place.ensures.place c.in-Some-place.ensures.within c.index.ensures c.if-index.false c.give_port.new.plan c.give_port.ensures
 
 pub give_port-requires-clause-in_use : goal.give_port-requires-clause-in_use
 give_port-requires-clause-in_use c =
