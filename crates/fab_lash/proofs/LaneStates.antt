@@ -45,29 +45,31 @@ module _ (t : Topology) (e : Entries) (count : ℕ) (layer : ℕ → ℕ → ℕ
     none = λ lane less. refuses_not_fits lane (nowhere lane (omega (arith, less, before.lanes)));
   }
 
-  -- and the lane that takes one is its layer
-  pub placed_has_layer : (new : List Dependencies) (lane : ℕ) → layer low high ≡ lane → IsPlaced used new (pair_dependencies t e low high) lane → HasLayer t e count layer low high
-  placed_has_layer new lane is p =
-      layer_found t e count lane low high layer is (omega (arith, p.low, before.lanes))
-      (try_fits t e layer lane low high (IsListed (listed_in used lane)) (before.lists lane) (IsListed (listed_in new lane)) all p.taken.1)
-      (λ other less. refuses_not_fits other (p.refused other less))
-    where
-      old : List Dep
-      old = listed_in used lane
+  -- a lane that takes a pair lists its dependencies and those that it had
+  module _ (new : List Dependencies) (lane : ℕ) (p : IsPlaced used new (pair_dependencies t e low high) lane) where
+    abbrev pub old : List Dep
+    old = listed_in used lane
 
-      deps : List Dep
-      deps = pair_dependencies t e low high
+    abbrev pub deps : List Dep
+    deps = pair_dependencies t e low high
 
-      to : (c d : ℕ) → Contains old (dep_of c d) ⊎ Contains deps (dep_of c d) → DependsOnPair t e low high c d ⊎ IsListed old c d
-      to c d (inl x) = inr x
-      to c d (inr x) = inl ((lists_pair t e low high c d).0 x)
+    to : (c d : ℕ) → Contains old (dep_of c d) ⊎ Contains deps (dep_of c d) → DependsOnPair t e low high c d ⊎ IsListed old c d
+    to c d (inl x) = inr x
+    to c d (inr x) = inl ((lists_pair t e low high c d).0 x)
 
-      from : (c d : ℕ) → DependsOnPair t e low high c d ⊎ IsListed old c d → Contains (old ++ deps) (dep_of c d)
-      from c d (inl x) = Contains-append_right old deps (dep_of c d) ((lists_pair t e low high c d).1 x)
-      from c d (inr x) = Contains-append_left old deps (dep_of c d) x
+    from : (c d : ℕ) → DependsOnPair t e low high c d ⊎ IsListed old c d → Contains (old ++ deps) (dep_of c d)
+    from c d (inl x) = Contains-append_right old deps (dep_of c d) ((lists_pair t e low high c d).1 x)
+    from c d (inr x) = Contains-append_left old deps (dep_of c d) x
 
-      all : SameGraph (IsListed (listed_in new lane)) (λ (c d : ℕ). DependsOnPair t e low high c d ⊎ IsListed old c d)
-      all c d = (
-        λ x. to c d (Contains-append_cases old deps (dep_of c d) (subst (λ xs. Contains xs (dep_of c d)) p.taken.0 x)),
-        λ y. subst (λ xs. Contains xs (dep_of c d)) (sym p.taken.0) (from c d y),
-      )
+    pub lists_both : SameGraph (IsListed (listed_in new lane)) (λ (c d : ℕ). DependsOnPair t e low high c d ⊎ IsListed old c d)
+    lists_both c d = (
+      λ x. to c d (Contains-append_cases old deps (dep_of c d) (subst (λ xs. Contains xs (dep_of c d)) p.taken.0 x)),
+      λ y. subst (λ xs. Contains xs (dep_of c d)) (sym p.taken.0) (from c d y),
+    )
+
+    -- and it is the pair's layer
+    pub placed_has_layer : layer low high ≡ lane → HasLayer t e count layer low high
+    placed_has_layer is =
+        layer_found t e count lane low high layer is (omega (arith, p.low, before.lanes))
+        (try_fits t e layer lane low high (IsListed (listed_in used lane)) (before.lists lane) (IsListed (listed_in new lane)) lists_both p.taken.1)
+        (λ other less. refuses_not_fits other (p.refused other less))
