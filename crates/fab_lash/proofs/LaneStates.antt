@@ -1,7 +1,7 @@
 -- What stands before a pair is placed, and what a refusal says then.
-use Rattle.std.proofs.Common.{◌≡◌, ℕ, zero, suc, ◌<◌, ◌++◌, ◌⊎◌, inl, inr, List, [], ◌∷◌, length, take, subst, arith}
+use Rattle.std.proofs.Common.{◌≡◌, ℕ, zero, suc, ◌++◌, ◌⊎◌, inl, inr, List, [], ◌∷◌, length, take, subst, sym, arith}
 use Rattle.std.specs.Prelude.{Contains}
-use Rattle.std.proofs.lemmas.List.Elements.{Contains-append_cases}
+use Rattle.std.proofs.lemmas.List.Elements.{Contains-append_left, Contains-append_right, Contains-append_cases}
 use Rattle.fab_graph.specs.Walks.{SameGraph}
 use Rattle.fab_graph.proofs.Members.{first, later, first_or_later}
 use Rattle.fab_model.specs.Topology.{Topology}
@@ -11,9 +11,9 @@ use Rattle.fab_depgraph.specs.Listed.{Dependencies, IsListed, dep_of}
 use Rattle.fab_lash.specs.Pairs.{IsPair, ComesBefore, DependsOnPair}
 use Rattle.fab_lash.specs.Followers.{pair_dependencies}
 use Rattle.fab_lash.specs.Layerings.{DependsEarlier, FitsLane, HasLayer, NeedsLane}
-use Rattle.fab_lash.specs.Placing.{listed_in, Refuses, IsNowhere}
+use Rattle.fab_lash.specs.Placing.{listed_in, Refuses, IsNowhere, IsPlaced}
 use Rattle.fab_lash.proofs.Followers.{lists_pair}
-use Rattle.fab_lash.proofs.LaneSteps.{try_fails}
+use Rattle.fab_lash.proofs.LaneSteps.{try_fits, try_fails, layer_found}
 
 -- earlier pairs have their layers, and each lane lists the dependencies of those whose layer it is
 pub record AreLayersBefore (t : Topology) (e : Entries) (count : ℕ) (layer : ℕ → ℕ → ℕ) (used : List Dependencies) (low high : ℕ) : Type 0 where
@@ -44,3 +44,32 @@ module _ (t : Topology) (e : Entries) (count : ℕ) (layer : ℕ → ℕ → ℕ
     earlier = before.earlier;
     none = λ lane less. refuses_not_fits lane (nowhere lane (omega (arith, less, before.lanes)));
   }
+
+  -- a lane that takes a pair lists its dependencies and those that it had
+  module _ (new : List Dependencies) (lane : ℕ) (p : IsPlaced used new (pair_dependencies t e low high) lane) where
+    abbrev pub old : List Dep
+    old = listed_in used lane
+
+    abbrev pub deps : List Dep
+    deps = pair_dependencies t e low high
+
+    to : (c d : ℕ) → Contains old (dep_of c d) ⊎ Contains deps (dep_of c d) → DependsOnPair t e low high c d ⊎ IsListed old c d
+    to c d (inl x) = inr x
+    to c d (inr x) = inl ((lists_pair t e low high c d).0 x)
+
+    from : (c d : ℕ) → DependsOnPair t e low high c d ⊎ IsListed old c d → Contains (old ++ deps) (dep_of c d)
+    from c d (inl x) = Contains-append_right old deps (dep_of c d) ((lists_pair t e low high c d).1 x)
+    from c d (inr x) = Contains-append_left old deps (dep_of c d) x
+
+    pub lists_both : SameGraph (IsListed (listed_in new lane)) (λ (c d : ℕ). DependsOnPair t e low high c d ⊎ IsListed old c d)
+    lists_both c d = (
+      λ x. to c d (Contains-append_cases old deps (dep_of c d) (subst (λ xs. Contains xs (dep_of c d)) p.taken.0 x)),
+      λ y. subst (λ xs. Contains xs (dep_of c d)) (sym p.taken.0) (from c d y),
+    )
+
+    -- and it is the pair's layer
+    pub placed_has_layer : layer low high ≡ lane → HasLayer t e count layer low high
+    placed_has_layer is =
+        layer_found t e count lane low high layer is (omega (arith, p.low, before.lanes))
+        (try_fits t e layer lane low high (IsListed (listed_in used lane)) (before.lists lane) (IsListed (listed_in new lane)) lists_both p.taken.1)
+        (λ other less. refuses_not_fits other (p.refused other less))

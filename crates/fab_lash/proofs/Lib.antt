@@ -11,3 +11,6 @@ pub mod Places
 pub mod PlanNumbers
 pub mod PairChannels
 pub mod LaneStates
+pub mod PairAfterPair
+pub mod PairsInOrder
+pub mod LayerLevels

@@ -33,7 +33,7 @@ counts_set [] lane g h is same = absurd (none-some g is)
 counts_set (x ∷ xs) zero g h is same = ap (λ n. n ∷ channel_counts xs) (same ∙ ap (λ (y : Dependencies). y.channels) (sym (same_Some x g is)))
 counts_set (x ∷ xs) (suc lane) g h is same = ap (λ ns. x.channels ∷ ns) (counts_set xs lane g h is same)
 
-count_at : (used : List Dependencies) (lane : ℕ) (g : Dependencies) → slice_get used lane ≡ Some g → slice_get (channel_counts used) lane ≡ Some g.channels
+pub count_at : (used : List Dependencies) (lane : ℕ) (g : Dependencies) → slice_get used lane ≡ Some g → slice_get (channel_counts used) lane ≡ Some g.channels
 count_at [] lane g is = absurd (none-some g is)
 count_at (x ∷ xs) zero g is = ap (λ (y : Dependencies). Some y.channels) (same_Some x g is)
 count_at (x ∷ xs) (suc lane) g is = count_at xs lane g is

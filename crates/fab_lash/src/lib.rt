@@ -3,8 +3,11 @@
 
 mod laws;
 mod layered;
+mod layered_plan;
 mod layering;
+mod levels;
 mod numbered;
+mod pair_layers;
 mod pair_routes;
 mod placing;
 mod trying;
@@ -14,3 +17,4 @@ pub use laws::{
     one_needs_lane,
 };
 pub use layered::{LashFault, Layered};
+pub use layered_plan::lash;
