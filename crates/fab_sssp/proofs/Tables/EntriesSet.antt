@@ -1,10 +1,9 @@
 -- What setting an entry changes.
-use Rattle.std.proofs.Common.{◌≡◌, ◌≢◌, ℕ, ◌*◌, ◌<◌, ◌≤◌, ◌⊎◌, inl, inr, false, Option, Some, None, length, refl, sym, ◌∙◌, ap, subst, arith, Contains, length-set}
-use Rattle.std.proofs.lemmas.List.{length-replicate, get_or_past}
-use Rattle.std.proofs.Math.Nat.{mul-le-mul_right}
+use Rattle.std.proofs.Common.{◌≡◌, ◌≢◌, ℕ, ◌<◌, ◌≤◌, ◌⊎◌, inl, inr, false, Option, Some, None, length, refl, sym, ◌∙◌, subst, arith, Contains, length-set}
+use Rattle.std.proofs.lemmas.List.{length-replicate}
 use Rattle.std.proofs.lemmas.List.Elements.{All-set, All-replicate}
-use Rattle.std.specs.Prelude.{◌==◌, ◌&&◌}
-use Rattle.std.proofs.lemmas.Bool.{cases_eq, eq-eqb, ne_eqb, and_from, and_left, and_right}
+use Rattle.std.specs.Prelude.{◌==◌, ◌&&◌, nat_lt, slice_index_or}
+use Rattle.std.proofs.lemmas.Bool.{cases_eq, eq-eqb, ne_eqb, and_from, and_left, and_right, cond-false, le-ltb}
 use Rattle.fab_model.specs.Topology.{Topology, lids_of}
 use Rattle.fab_model.specs.WellFormed.{IsFabric}
 use Rattle.fab_tables.specs.Entries.{Entries, AreEntries, index_of, cell, port_in_column, entry, with_port_in_column, with_entry, no_entries}
@@ -66,4 +65,4 @@ entry_past t e s lid fits past = go (index_of lid e.in_use)
   where
     go : (place : Option ℕ) → port_in_column e s place ≡ 255
     go None = refl
-    go (Some i) = get_or_past e.ports (cell (length e.in_use) s i) 255 (omega (arith, fits.whole.whole, mul-le-mul_right (length e.in_use) past, ap (λ n. n * length e.in_use) fits.switches))
+    go (Some i) = cond-false (nat_lt s e.switches) (slice_index_or e.ports (cell e.switches i s) 255) 255 (le-ltb s e.switches (omega (arith, past, fits.switches)))
