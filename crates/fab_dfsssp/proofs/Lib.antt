@@ -5,3 +5,4 @@ pub mod RingEdges
 pub mod Falling
 pub mod Weakest
 pub mod Ending
+pub mod PlanNumbers

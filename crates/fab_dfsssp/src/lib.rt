@@ -3,6 +3,7 @@
 
 mod breaking;
 mod laws;
+mod numbered;
 
 pub use breaking::BreakFault;
 pub use laws::{
