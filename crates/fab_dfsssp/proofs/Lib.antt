@@ -6,3 +6,4 @@ pub mod Falling
 pub mod Weakest
 pub mod Ending
 pub mod PlanNumbers
+pub mod LaneEdges

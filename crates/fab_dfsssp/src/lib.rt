@@ -2,6 +2,7 @@
 #![tactic(auto)]
 
 mod breaking;
+mod lane_graph;
 mod laws;
 mod numbered;
 
