@@ -6,4 +6,5 @@ pub mod Falling
 pub mod Weakest
 pub mod Ending
 pub mod PlanNumbers
+pub mod RouteEdges
 pub mod LaneEdges

@@ -5,6 +5,7 @@ mod breaking;
 mod lane_graph;
 mod laws;
 mod numbered;
+mod route_edges;
 
 pub use breaking::BreakFault;
 pub use laws::{
