@@ -6,5 +6,6 @@ pub mod Falling
 pub mod Weakest
 pub mod Ending
 pub mod PlanNumbers
+pub mod LevelEdges
 pub mod RouteEdges
 pub mod LaneEdges
