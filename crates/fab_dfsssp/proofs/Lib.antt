@@ -6,6 +6,7 @@ pub mod Falling
 pub mod Weakest
 pub mod Ending
 pub mod PlanNumbers
+pub mod StepsTaken
 pub mod LevelsMoved
 pub mod LevelEdges
 pub mod RouteEdges
