@@ -18,10 +18,10 @@ use Rattle.fab_tables.proofs.Joined.Lids.{lid_in_use}
 use Rattle.fab_tables.proofs.Paths.FallingRoutes.{channel_port_small}
 use Rattle.fab_balance.specs.Eligible.{LeadsNearer, AreNearerPorts}
 use Rattle.fab_balance.specs.MinHop.{IsMinHopChoice}
-use Rattle.fab_balance.specs.Loads.{load_of, IsBalancedChoice, IsPicked}
+use Rattle.fab_balance.specs.Loads.{port_load, IsBalancedChoice, IsPicked}
 use Rattle.fab_balance.proofs.LidPlaces.{IsOfTerminal, terminal_there, terminal_in_use, some_port}
 use Rattle.fab_balance.proofs.LoadCounts.{is_sent, same_count, none_counted, one_counted, loads_same, balanced_kept}
-use Rattle.fab_balance.proofs.EntriesSet.{entry_kept}
+use Rattle.fab_tables.proofs.Rows.EntriesSet.{entry_kept}
 use Rattle.fab_balance.proofs.Placing.{all_alike}
 use Rattle.fab_balance.proofs.Choosing.{IsChoosing, none_chosen, one_passed, one_chosen, nearer_is_chosen, none_is_chosen}
 
@@ -33,10 +33,10 @@ pub record IsNextTo (t : Topology) (count n : ℕ) : Type 0 where
 -- the counters of a switch hold the loads after the first so many LIDs
 pub record HasLoads (t : Topology) (e : Entries) (s count : ℕ) (loads : List ℕ) : Type 0 where
   pub whole : length loads ≡ 256
-  pub sent : (port n : ℕ) → port < 256 → IsNextTo t count n → slice_index loads port ≡ load_of t e s n port
+  pub sent : (port n : ℕ) → port < 256 → IsNextTo t count n → slice_index loads port ≡ port_load t e s n port
 
 -- no load counts more than all terminals
-pub load_small : (t : Topology) → IsWellFormed t → (e : Entries) (s n port : ℕ) → load_of t e s n port < 2 ^ 16
+pub load_small : (t : Topology) → IsWellFormed t → (e : Entries) (s n port : ℕ) → port_load t e s n port < 2 ^ 16
 load_small t good e s n port = omega (arith, good.lid_count, count_by-le-length (is_sent e s n port) t.terminals)
 
 module _ (t : Topology) (good : IsFabric t) where
@@ -52,7 +52,7 @@ module _ (t : Topology) (good : IsFabric t) where
   pub none_sent : (e : Entries) (s : ℕ) (loads : List ℕ) → length loads ≡ 256 → ((port : ℕ) → slice_index loads port ≡ 0) → HasLoads t e s 0 loads
   none_sent e s loads whole zeros = record { whole = whole; sent = λ port n low next. zeros port ∙ sym (none port n next) }
     where
-      none : (port n : ℕ) → IsNextTo t 0 n → load_of t e s n port ≡ 0
+      none : (port n : ℕ) → IsNextTo t 0 n → port_load t e s n port ≡ 0
       none port n next = none_counted (is_sent e s n port) t.terminals (λ k d low. at (slice_index_or t.terminals k d) (Contains-get_or t.terminals k d low))
         where
           at : (row : TerminalRow) → Contains t.terminals row → is_sent e s n port row ≡ false
@@ -145,11 +145,11 @@ module _ (t : Topology) (good : IsFabric t) (e f : Entries) (s count lid : ℕ) 
           | inr (inr more) ↦ omega (arith, equal, its.has_lid, good.rows.terminal_lids_rise i k d more within, ap (λ (r : TerminalRow). r.lid.0) (get_or_default t.terminals i d row its.listed.1 ∙ at_row))
         ]
 
-        counted : (port n : ℕ) → port < 256 → IsNextTo t (count + 1) n → load_of t f s n port ≡ slice_index loads port + cond (entry f s lid == port) 1 0
+        counted : (port n : ℕ) → port < 256 → IsNextTo t (count + 1) n → port_load t f s n port ≡ slice_index loads port + cond (entry f s lid == port) 1 0
         counted port n small next =
             one_counted (is_sent e s lid port) (is_sent f s n port) t.terminals i row its.listed.1 at_row (not_yet port)
             (λ k d within other. other_row n port next (slice_index_or t.terminals k d) (Contains-get_or t.terminals k d within) (differs k d within other))
-            ∙ ap (λ b. load_of t e s lid port + cond b 1 0) (now_sent port n next)
+            ∙ ap (λ b. port_load t e s lid port + cond b 1 0) (now_sent port n next)
             ∙ ap (λ m. m + cond (entry f s lid == port) 1 0) (sym (before.sent port lid small (next_here t good count lid low here)))
 
         at_port : (port : ℕ) → (port ≡ entry f s lid) ⊎ (port ≢ entry f s lid) → port < 256 →
@@ -171,10 +171,10 @@ module _ (t : Topology) (good : IsFabric t) (e f : Entries) (s count lid : ℕ) 
           (All-contains (λ p. IsNotAfter (λ q. slice_index loads q) port p) ports other picked.least ((are other).1 is));
     }
       where
-        load_is : (p : ℕ) → p < 256 → slice_index loads p ≡ load_of t f s lid p
+        load_is : (p : ℕ) → p < 256 → slice_index loads p ≡ port_load t f s lid p
         load_is p low_port = before.sent p lid low_port (next_here t good count lid low here) ∙ loads_same t e f s lid (λ other less. same other (λ equal. omega (arith, less, equal))) p
 
-        as_loads : (m n : ℕ) → m < 256 → n < 256 → IsNotAfter (λ q. slice_index loads q) m n → IsNotAfter (λ q. load_of t f s lid q) m n
+        as_loads : (m n : ℕ) → m < 256 → n < 256 → IsNotAfter (λ q. slice_index loads q) m n → IsNotAfter (λ q. port_load t f s lid q) m n
         as_loads m n a b (inl less) = inl (omega (arith, less, load_is m a, load_is n b))
         as_loads m n a b (inr both) = inr (sym (load_is m a) ∙ both.0 ∙ load_is n b, both.1)
 

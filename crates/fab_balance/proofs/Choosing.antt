@@ -22,7 +22,7 @@ use Rattle.fab_hops.proofs.HopLaws.{one_hop_count}
 use Rattle.fab_hops.proofs.HopWalks.{connected_have_count, leads_nearer, no_hops}
 use Rattle.fab_balance.specs.Eligible.{LeadsNearer, HasNoNearerPort}
 use Rattle.fab_balance.specs.Choosing.{AreChosenAt, KeepsOtherSwitches}
-use Rattle.fab_balance.proofs.EntriesSet.{fixed_kept, entry_set, entry_kept}
+use Rattle.fab_tables.proofs.Rows.EntriesSet.{fixed_kept, entry_set, entry_kept}
 use Rattle.fab_balance.proofs.Placing.{IsAmongFirst}
 
 -- ---- an entry is chosen exactly where some port leads nearer

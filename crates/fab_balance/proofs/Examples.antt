@@ -7,20 +7,20 @@ use Rattle.fab_tables.proofs.Examples.Fabrics.{channel}
 use Rattle.fab_tables.proofs.Examples.MoreFabrics.{pair, pair_balanced}
 use Rattle.fab_hops.specs.HopCounts.{IsHopCount}
 use Rattle.fab_balance.specs.Eligible.{LeadsNearer}
-use Rattle.fab_balance.specs.Loads.{load_of, IsPicked}
+use Rattle.fab_balance.specs.Loads.{port_load, IsPicked}
 
 -- the loads of the first switch's ports at LID 3, and at LID 4
-no_load_at_3 : load_of pair pair_balanced 0 3 1 ≡ 0
+no_load_at_3 : port_load pair pair_balanced 0 3 1 ≡ 0
 no_load_at_3 = refl
 
-load_at_4 : load_of pair pair_balanced 0 4 1 ≡ 1
+load_at_4 : port_load pair pair_balanced 0 4 1 ≡ 1
 load_at_4 = refl
 
-no_load_at_4 : load_of pair pair_balanced 0 4 2 ≡ 0
+no_load_at_4 : port_load pair pair_balanced 0 4 2 ≡ 0
 no_load_at_4 = refl
 
 -- so at LID 4 port 2 comes before port 1
-pub second_port : IsNotAfter (λ p. load_of pair pair_balanced 0 4 p) 2 1
+pub second_port : IsNotAfter (λ p. port_load pair pair_balanced 0 4 p) 2 1
 second_port = inl (omega arith)
 
 one_hop : IsHopCount pair 0 1 1

@@ -1,10 +1,10 @@
 pub mod Examples
 pub mod Reaching
 pub mod OneTables
+pub mod TablesExist
 pub mod ShortestRoutes
 pub mod DorRoutes
 pub mod NearerPorts
-pub mod EntriesSet
 pub mod Placing
 pub mod LidPlaces
 pub mod LoadCounts

@@ -8,7 +8,7 @@ use Rattle.fab_graph.specs.Least.{IsNotAfter}
 use Rattle.fab_model.specs.declared.rows.TerminalRow.{TerminalRow}
 use Rattle.fab_model.specs.Topology.{Topology}
 use Rattle.fab_tables.specs.Entries.{Entries, entry}
-use Rattle.fab_balance.specs.Loads.{load_of, IsBalancedChoice}
+use Rattle.fab_balance.specs.Loads.{port_load, IsBalancedChoice}
 
 -- ---- counts of two tests
 
@@ -63,7 +63,7 @@ same_test lid n a b port same = go (nat_lt n lid) refl
 
 module _ (t : Topology) (e f : Entries) (s lid : ℕ) (same : (other : ℕ) → other < lid → entry e s other ≡ entry f s other) where
   -- entries that are the same for smaller LIDs make the same loads
-  pub loads_same : (port : ℕ) → load_of t e s lid port ≡ load_of t f s lid port
+  pub loads_same : (port : ℕ) → port_load t e s lid port ≡ port_load t f s lid port
   loads_same port =
       same_count (is_sent e s lid port) (is_sent f s lid port) t.terminals
       (λ k d low. same_test lid (slice_index_or t.terminals k d).lid.0 _ _ port (λ less. same (slice_index_or t.terminals k d).lid.0 less))

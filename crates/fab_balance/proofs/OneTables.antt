@@ -10,7 +10,7 @@ use Rattle.fab_model.specs.Connected.{IsConnectedTo}
 use Rattle.fab_tables.specs.Entries.{Entries, entry}
 use Rattle.fab_tables.specs.FixedEntries.{HasFixedEntries, IsChosen}
 use Rattle.fab_balance.specs.Eligible.{LeadsNearer}
-use Rattle.fab_balance.specs.Loads.{load_of, IsBalancedChoice}
+use Rattle.fab_balance.specs.Loads.{port_load, IsBalancedChoice}
 use Rattle.fab_balance.specs.Laws.{OneMinHopTable, OneDorTable}
 use Rattle.fab_tables.proofs.Rows.SameTables.{entries_same}
 use Rattle.fab_balance.proofs.LoadCounts.{loads_same}
@@ -56,10 +56,10 @@ not_after_both a b m n (inl p) (inr q) = absurd (omega (arith, q.0))
 not_after_both a b m n (inr p) (inl q) = absurd (omega (arith, p.0))
 not_after_both a b m n (inr p) (inr q) = omega (arith, p.1, q.1)
 
-one_choice : (t : Topology) (e f : Entries) (s lid : ℕ) (Eligible : ℕ → Type 0) (m n : ℕ) → ((port : ℕ) → load_of t e s lid port ≡ load_of t f s lid port) →
+one_choice : (t : Topology) (e f : Entries) (s lid : ℕ) (Eligible : ℕ → Type 0) (m n : ℕ) → ((port : ℕ) → port_load t e s lid port ≡ port_load t f s lid port) →
     IsBalancedChoice t e s lid Eligible m → IsBalancedChoice t f s lid Eligible n → m ≡ n
 one_choice t e f s lid Eligible m n same x y =
-    not_after_both (load_of t e s lid m) (load_of t e s lid n) m n (x.least n y.eligible)
+    not_after_both (port_load t e s lid m) (port_load t e s lid n) m n (x.least n y.eligible)
     (let P : (ℕ → ℕ) → Type 0 = λ load. IsNotAfter load n m in subst P (sym (fun_ext same)) (y.least m x.eligible))
 
 pub one_min_hop_table : OneMinHopTable

@@ -13,7 +13,7 @@ use Rattle.fab_tables.specs.Fit.{EntriesFit}
 use Rattle.fab_tables.specs.FixedEntries.{HasFixedEntries}
 use Rattle.fab_tables.proofs.Joined.Lids.{lid_in_use}
 use Rattle.fab_tables.proofs.Paths.FallingRoutes.{place_below}
-use Rattle.fab_balance.proofs.EntriesSet.{no_entries_fit, fits_kept, entry_set, entry_kept}
+use Rattle.fab_tables.proofs.Rows.EntriesSet.{no_entries_fit, fits_kept, entry_set, entry_kept}
 
 -- the LID is one of the first so many in use
 abbrev pub IsAmongFirst : Topology → ℕ → ℕ → Type 0

@@ -2,7 +2,8 @@
 //! dimensions, so that ports must be cabled alike at all switches by whoever builds the fabric.
 //!
 //! Time: LIDs times switches and channels, less where a switch's first ports lead nearer. Memory: the tables.
-//! Source: OpenSM's document on routing, engine `dor`; Dally and Seitz on dimension order.
+//! Source: OpenSM's document on routing, engine `dor`; Dally and Seitz on dimension order. That
+//! the least port is taken is this project's own rule.
 ghost use Rattle.std.specs.Prelude.{◌<◌, length, IfOk};
 ghost use Rattle.fab_model.specs.WellFormed.{IsFabric};
 ghost use Rattle.fab_tables.specs.Certified.{Reaches};

@@ -8,8 +8,9 @@ use fab_model::Fabric;
 use fab_tables::Tables;
 use std::alloc::{AllocError, Global};
 
-/// Tables in which each LID's own switch has the port of the LID's place, and all other entries are 255.
-pub(crate) fn with_fixed_entries(alloc: Global, fabric: &Fabric) -> Result<Tables, AllocError>
+/// Tables in which each LID's own switch has the port of the LID's place, and all other entries are 255. An engine
+/// chooses the others. The error is want of memory.
+pub fn with_fixed_entries(alloc: Global, fabric: &Fabric) -> Result<Tables, AllocError>
     ensures { IfOk result (HasFixedEntries fabric.now) }
 {
     let mut tables = Tables::new(alloc, fabric)?;

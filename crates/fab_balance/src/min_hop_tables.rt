@@ -1,11 +1,11 @@
-//! The routing engine Min Hop: shortest routes, balanced by the number of terminals that each port leads to.
+//! The routing engine Min Hop: shortest routes, balanced by the number of terminals' LIDs that go by each port.
 //!
 //! For each switch the LIDs are gone through in ascending order. A port is eligible for a LID where its channel leads
 //! to a switch with one hop less to the LID's switch; the entry is the eligible port with the least load, and of
 //! those the least one. The load of a port is the number of terminals' LIDs that went by it so far at this switch.
 //!
 //! Time: LIDs times switches and channels. Memory: the tables, and about 1 KiB.
-//! Source: OpenSM's document on routing, engine `minhop`.
+//! Source: OpenSM's document on routing, engine `minhop`; the load and the order of ties are this project's own.
 ghost use Rattle.std.specs.Prelude.{◌<◌, length, IfOk, OnOk};
 ghost use Rattle.fab_model.specs.WellFormed.{IsFabric};
 ghost use Rattle.fab_tables.specs.Certified.{Reaches};

@@ -10,7 +10,7 @@ use Rattle.fab_tables.specs.declared.verdict.VirtualChannel.{VirtualChannel}
 use Rattle.fab_tables.specs.declared.verdict.Verdict.{Verdict}
 use Rattle.fab_tables.specs.declared.verdict.Verdict.TheVariants.{Routes, Lanes, Unreached, NoLevel, BadLane, NoNumber, NotRising}
 use Rattle.fab_tables.specs.Entries.{Entries}
-use Rattle.fab_tables.specs.LaneTables.{LaneTables, level}
+use Rattle.fab_tables.specs.LaneTables.{LaneTables}
 use Rattle.fab_tables.specs.Dependencies.{IsUsed, Depends, DependsByNode, node_of}
 use Rattle.fab_tables.specs.Verdicts.{IsHop, IsLaneFaultAt, IsFaultAt, IsStructural, IsRefusal}
 use Rattle.fab_tables.proofs.Verdicts.OneVerdict.{one_refusal}

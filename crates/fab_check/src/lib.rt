@@ -2,9 +2,9 @@
 //! each, so that no packets wait for each other (Dally and Seitz), and if not, the first fault. It stands on
 //! the fabric and the tables alone, and so shares nothing with the engines that make plans.
 //!
-//! For each LID each switch is looked at once, and with lanes once more for each level in use and for each start;
-//! two hops more are looked at for a start where pairs of ports have maps. Without such maps one start of a source
-//! is looked at, and else that of each terminal.
+//! For each LID each switch is stepped from once, and with lanes once more for each level in use; a start takes at
+//! most one hop more, and two where pairs of ports have maps. Without such maps one start of a source is looked at,
+//! and else that of each terminal.
 #![tactic(auto)]
 
 ghost use Rattle.std.specs.Prelude.{◌≡◌, ◌↔◌, IfOk, None};

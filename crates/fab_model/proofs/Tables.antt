@@ -39,10 +39,10 @@ abbrev pub stands : {X : Type 0} → (X → ℕ) → (X → ℕ) → ℕ → ℕ
 stands switch port s p x = eqb (switch x) s && eqb (port x) p
 
 -- A row is written at its port.
-pub is_by_port_more : {X Y : Type 0} (switch port : X → ℕ) (id : ℕ → Y) (switches : ℕ) (xs : List X) (i : ℕ) (d : X) (cells : List (Option Y)) → i < length xs → switch (get_or xs i d) < switches → port (get_or xs i d) < 256 → AllPairs (λ first second. switch first ≡ switch second → port first ≢ port second) xs → IsByPort (λ s p. option_map id (position (stands switch port s p) (take i xs))) switches cells → IsByPort (λ s p. option_map id (position (stands switch port s p) (take (i + 1) xs))) switches (set cells (256 * switch (get_or xs i d) + port (get_or xs i d)) (Some (id i)))
+pub is_by_port_more : {X Y : Type 0} (switch port : X → ℕ) (id : ℕ → Y) (switches : ℕ) (xs : List X) (i : ℕ) (d : X) (cells : List (Option Y)) → i < length xs → switch (get_or xs i d) < switches → port (get_or xs i d) < 256 → AllPairs (λ first second. switch first ≡ switch second → port first ≢ port second) xs → IsByPort (λ s p. option_map id (position (stands switch port s p) (take i xs))) switches cells → IsByPort (λ s p. option_map id (position (stands switch port s p) (take (i + 1) xs))) switches (set cells (264 * switch (get_or xs i d) + port (get_or xs i d)) (Some (id i)))
 is_by_port_more {X} {Y} switch port id switches xs i d cells h low small apart are =
     let x = get_or xs i d in
-    let cell = 256 * switch x + port x in
+    let cell = 264 * switch x + port x in
     record {
       count = length-set cells cell (Some (id i)) ∙ are.count;
       each = λ s p hs hp.
@@ -51,7 +51,7 @@ is_by_port_more {X} {Y} switch port id switches xs i d cells h low small apart a
                 let both = and_parts (eqb (switch x) s) (eqb (port x) p) passes in
                 let at_switch = eqb-true (switch x) s both.0 in
                 let at_port = eqb-true (port x) p both.1 in
-                let here : 256 * s + p ≡ cell = omega arith in
+                let here : 264 * s + p ≡ cell = omega arith in
                 let first : position (stands switch port s p) (take (i + 1) xs) ≡ Some i =
                 position-more_yes (stands switch port s p) xs i d h passes
                 (λ k lt. false_from_ne_true (stands switch port s p (get_or xs k d)) (λ t.
@@ -59,12 +59,12 @@ is_by_port_more {X} {Y} switch port id switches xs i d cells h low small apart a
                 apart k i d lt h (eqb-true (switch (get_or xs k d)) s parts.0 ∙ sym at_switch) (eqb-true (port (get_or xs k d)) p parts.1 ∙ sym at_port))) in
                 rw (here, first) (get_or-set_same cells cell (Some (id i)) None (omega (arith, are.count)))
             | inr fails ↦
-                let other : 256 * s + p ≢ cell = λ same.
+                let other : 264 * s + p ≢ cell = λ same.
                 elim (and_cases (eqb (switch x) s) (eqb (port x) p) fails) [
                   | inl a ↦ eqb-false (switch x) s a (omega (arith, same))
                   | inr b ↦ eqb-false (port x) p b (omega (arith, same))
                 ] in
-                rw (position-more_no (stands switch port s p) xs i d h fails) (get_or-set_other cells cell (256 * s + p) (Some (id i)) None other ∙ are.each s p hs hp)
+                rw (position-more_no (stands switch port s p) xs i d h fails) (get_or-set_other cells cell (264 * s + p) (Some (id i)) None other ∙ are.each s p hs hp)
           ];
     }
 

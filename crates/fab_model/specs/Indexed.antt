@@ -18,10 +18,10 @@ only switches channels terminals = record { switches = switches; adapters = []; 
 abbrev pub AreRows : List SwitchRow → List ChannelRow → List TerminalRow → Type 0
 AreRows switches channels terminals = (adapters : List AdapterRow) × IsFabric (record { switches = switches; adapters = adapters; channels = channels; terminals = terminals })
 
--- a cell for each port from 0 to 255 of each switch in turn, with what is there
+-- 264 cells for each switch in turn, one for each port from 0 to 255 with what is there
 pub record IsByPort {X : Type 0} (at : ℕ → ℕ → Option X) (switches : ℕ) (cells : List (Option X)) : Type 0 where
-  pub count : length cells ≡ 256 * switches
-  pub each : (switch port : ℕ) → switch < switches → port < 256 → slice_index_or cells (256 * switch + port) None ≡ at switch port
+  pub count : length cells ≡ 264 * switches
+  pub each : (switch port : ℕ) → switch < switches → port < 256 → slice_index_or cells (264 * switch + port) None ≡ at switch port
 
 -- for each switch, and once more behind the last, how many channels leave smaller ones
 pub record AreFirstChannels (channels : List ChannelRow) (switches : ℕ) (numbers : List ℕ) : Type 0 where

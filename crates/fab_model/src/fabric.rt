@@ -2,7 +2,7 @@
 //! terminals by LID, so that equal subnets have equal rows, in whatever order a text states them. It is made once,
 //! from records or from rows, and does not change; what finds its rows is made with it.
 //!
-//! Memory: the rows, and 512 cells a switch for what is at its ports.
+//! Memory: the rows, and 528 cells a switch for what is at its ports.
 ghost use Rattle.std.specs.Prelude.{◌≡◌, ◌+◌, ◌<◌, ◌≤◌, ◌^◌, ◌==◌, length, slice_get, position, Some, None, IfOk, map, option_map};
 ghost use Rattle.fab_text.specs.Readings.{Gives};
 ghost use Rattle.fab_model.specs.Topology.{Topology, switch_id, channel_id, terminal_id, lid_id, switch_of, channel_at, terminal_at, IsReverse, first_channel, is_source, lids_of, place_of};
@@ -16,7 +16,7 @@ mod without;
 
 use crate::building::rows_of;
 use crate::first_fault::find_fault;
-use crate::indexes::{Indexes, PORT_NUMBERS};
+use crate::indexes::{Indexes, PORT_CELLS};
 use crate::{
     AdapterRow, ChannelId, ChannelRow, FabricFault, Lid, Place, Raw, SwitchId, SwitchRow,
     TerminalId, TerminalRow,
@@ -84,7 +84,7 @@ impl Fabric {
 
     /// The fabric of rows that are one: for a generator, which makes rows. Switches and adapters stand by
     /// ascending GUID, channels by tail and out port, each with its reverse, and terminals by ascending LID.
-    /// The error is want of memory. It takes 512 cells a switch and one for each number of 16 bits, and the time
+    /// The error is want of memory. It takes 528 cells a switch and one for each number of 16 bits, and the time
     /// to fill them: O(switches log channels + channels + terminals + 65,536).
     pub fn of_rows(
         alloc: Global,
@@ -186,7 +186,7 @@ impl Fabric {
         requires { s.0 < length self.now.switches }
         ensures { result ≡ option_map channel_id (channel_at self.now s.0 port) }
     {
-        self.indexes.channels_by_port[PORT_NUMBERS * s.0 as usize + port as usize]
+        self.indexes.channels_by_port[PORT_CELLS * s.0 as usize + port as usize]
     }
 
     /// The terminal that is cabled to a switch's port; None exactly where none is. Constant time.
@@ -194,7 +194,7 @@ impl Fabric {
         requires { s.0 < length self.now.switches }
         ensures { result ≡ option_map terminal_id (terminal_at self.now s.0 port) }
     {
-        self.indexes.terminals_by_port[PORT_NUMBERS * s.0 as usize + port as usize]
+        self.indexes.terminals_by_port[PORT_CELLS * s.0 as usize + port as usize]
     }
 
     /// The switch that has a GUID; None exactly where none has it. Time in the logarithm of the switches.

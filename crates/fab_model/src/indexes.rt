@@ -1,5 +1,5 @@
 //! Tables that find the rows of a fabric: by port, by switch and by LID. Each is filled in one pass over its rows,
-//! but for the first channels of switches, which are found by halving. Memory: 512 cells a switch, 65,536 for the
+//! but for the first channels of switches, which are found by halving. Memory: 528 cells a switch, 65,536 for the
 //! LIDs.
 ghost use Rattle.std.specs.Prelude.{◌≡◌, ◌≢◌, ◌+◌, ◌*◌, ◌<◌, ◌≤◌, ◌^◌, [], All, AllPairs, length, filter, map, option_map, IfOk};
 ghost use Rattle.std.specs.List.{range_with_len};
@@ -10,17 +10,19 @@ ghost use Rattle.fab_model.specs.Indexed.{AreRows, AreIndexes, only, IsByPort, A
 use crate::{ChannelId, ChannelRow, Lid, Place, SwitchId, SwitchRow, TerminalId, TerminalRow};
 use std::alloc::{AllocError, Global};
 
-/// How many numbers a port may have, and how many a LID.
-pub(crate) const PORT_NUMBERS: usize = 256;
+/// How many cells a switch has for what is at its ports: a few more than the 256 numbers that a port may have, so
+/// that the cells of many switches don't share a few lines of a processor's cache.
+pub(crate) const PORT_CELLS: usize = 264;
 
+/// How many numbers a LID may have.
 const LID_NUMBERS: usize = 65_536;
 
 /// What finds the rows of a fabric without going through them.
 #[derive(Drop)]
 pub(crate) struct Indexes {
-    /// The channel that leaves by a port, at `256 * switch + port`.
+    /// The channel that leaves by a port, at `264 * switch + port`.
     pub(crate) channels_by_port: Vec<Option<ChannelId>>,
-    /// The terminal at a port, at `256 * switch + port`.
+    /// The terminal at a port, at `264 * switch + port`.
     pub(crate) terminals_by_port: Vec<Option<TerminalId>>,
     /// By switch, the first channel that leaves it, and behind them the number of channels.
     pub(crate) first_channels: Vec<u32>,
@@ -70,9 +72,9 @@ fn channels_by_port(
     ensures { IfOk result
         (λ cells. IsByPort (λ switch port. option_map channel_id (channel_at (only [] rows.now []) switch port)) switches cells.items) }
 {
-    let mut cells = vec![in alloc; None; PORT_NUMBERS * switches]?;
+    let mut cells = vec![in alloc; None; PORT_CELLS * switches]?;
     for (number, row) in rows.iter().enumerate() {
-        let cell = PORT_NUMBERS * row.tail.0 as usize + row.port as usize;
+        let cell = PORT_CELLS * row.tail.0 as usize + row.port as usize;
         cells[cell] = Some(ChannelId(number as u32));
     }
     Ok(cells)
@@ -91,9 +93,9 @@ fn terminals_by_port(
     ensures { IfOk result
         (λ cells. IsByPort (λ switch port. option_map terminal_id (terminal_at (only [] [] rows.now) switch port)) switches cells.items) }
 {
-    let mut cells = vec![in alloc; None; PORT_NUMBERS * switches]?;
+    let mut cells = vec![in alloc; None; PORT_CELLS * switches]?;
     for (number, row) in rows.iter().enumerate() {
-        let cell = PORT_NUMBERS * row.switch.0 as usize + row.port as usize;
+        let cell = PORT_CELLS * row.switch.0 as usize + row.port as usize;
         cells[cell] = Some(TerminalId(number as u32));
     }
     Ok(cells)

@@ -1,4 +1,4 @@
--- The list of failed cables. A line is empty, begins with `#`, or has a switch's GUID in hexadecimal digits and a
+-- The list of failed cables. A line is empty, begins with `#`, or has a switch's GUID, `0x` and hexadecimal digits, and a
 -- decimal port, with blanks between them and perhaps around them. The first line of another form is a fault.
 use Rattle.std.specs.Prelude.{ℕ, ◌+◌, ◌-◌, ◌^◌, Bool, true, false, List, [], ◌∷◌, Option, None, Some, Result, Ok, Err, if◌then◌else◌}
 use Rattle.std.specs.Str.Lines.{lines}

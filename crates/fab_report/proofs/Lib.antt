@@ -1,20 +1,5 @@
-mod RecipeExamples
-mod ReportExamples
-pub mod Bounds
-pub mod CableLists
-pub mod Ranges
-pub mod RegularCables
-pub mod RandomCables
-pub mod AllCables
-pub mod Places
-pub mod GeneratedRows
-pub mod Growing
-pub mod LeastFree
-pub mod Drawing
-pub mod TerminalLists
-pub mod RegularRows
-pub mod NodeRows
-pub mod LoadSums
-pub mod HopLines
-pub mod HopSums
-pub mod NumberCounts
+mod Examples
+pub mod Cabling
+pub mod Carrying
+pub mod Generated
+pub mod Reporting

@@ -4,5 +4,6 @@ pub mod Recipes
 pub mod Shown
 pub mod Loads
 pub mod Counting
+pub mod Order
 pub mod Summary
 pub mod Laws

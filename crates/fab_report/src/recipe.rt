@@ -30,9 +30,14 @@ pub enum Kind {
 /// What a fabric is generated from. The seed is used by `Random` alone.
 #[derive(Clone, Copy, Debug, PartialEq, Eq)]
 pub struct Recipe {
+    /// The shape, which says what the two numbers count.
     pub kind: Kind,
+    /// Switches of a ring or a random fabric, columns of a torus, leaf switches of a tree.
     pub a: u32,
+    /// Terminals of each switch of a ring, rows of a torus, top switches of a tree and terminals of each leaf switch,
+    /// pairs of words that may lay a further cable of a random fabric.
     pub b: u32,
+    /// What the words that lay random cables are drawn from.
     pub seed: u64,
 }
 

@@ -1,5 +1,4 @@
 -- Tables of least weight.
-pub mod EntriesSet
 pub mod FallingTrees
 pub mod LaidLids
 pub mod LaidTrees
@@ -8,3 +7,4 @@ pub mod OneTable
 pub mod RoutesLeast
 pub mod Turns
 pub mod WeightsSame
+pub mod TablesExist

@@ -5,3 +5,4 @@ pub mod Nearing
 pub mod Settled
 pub mod ShortWalks
 pub mod WeightsInRange
+pub mod DistancesExist

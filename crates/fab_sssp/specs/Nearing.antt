@@ -24,7 +24,7 @@ offered_switch o = o.0.1
 abbrev pub nearest_last : Offer → Offer → Ordering
 nearest_last x y = ordering_then (nat_cmp y.0.0 x.0.0) (nat_cmp y.0.1 x.0.1)
 
--- no weight is greater
+-- no weight is greater than 2^40: it is at most 1 + 2^39 at first, and raised by 2^28 at most
 abbrev pub weight_limit : ℕ
 weight_limit = 1099511627776
 

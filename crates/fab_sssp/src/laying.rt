@@ -3,7 +3,8 @@
 //! the same, so the tables are shortest routes balanced over the whole fabric.
 //!
 //! Time: for each LID a search for distances and two looks at each channel; memory: the tables, the weights, and what
-//! one search takes. Source: OpenSM's document on routing, engine `sssp`; Domke, Hoefler and Nagel on DFSSSP.
+//! one search takes. Source: OpenSM's document on routing, engine `sssp`; Domke, Hoefler and Nagel on DFSSSP. The
+//! weights are this project's own.
 ghost use Rattle.std.specs.Prelude.{◌≡◌, ◌≢◌, ◌<◌, length, Contains, IfOk, IfSome, OnOk, option_map};
 ghost use Rattle.fab_model.specs.declared.rows.ChannelId.{ChannelId as Channel};
 ghost use Rattle.fab_model.specs.Topology.{lids_of};

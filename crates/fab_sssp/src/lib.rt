@@ -10,7 +10,8 @@ mod tests;
 mod weights;
 
 pub use laws::{
-    least_weight_reaches, one_distance, one_least_weight_tables, routes_are_least, sums_fit,
+    connected_have_distance, least_weight_reaches, least_weight_tables_exist, one_distance,
+    one_least_weight_tables, routes_are_least, sums_fit,
 };
 pub use laying::lay;
 pub use search::distances;

@@ -1,7 +1,7 @@
 //! Distances to one switch by weighted channels: Dijkstra's search, against the channels.
 //!
 //! A heap holds the switches that were offered a distance, the nearest first; an offer to a settled switch is passed
-//! over. For S switches and C channels: O((S + C) log C) time, and at most 24 bytes for each channel and switch.
+//! over. For S switches and C channels: O((S + C) log C) time and O(S + C) memory.
 ghost use Rattle.std.specs.Prelude.{◌≡◌, ℕ, ◌+◌, ◌*◌, ◌<◌, ◌≤◌, length, IfOk, OnOk, count_by, is_some};
 ghost use Rattle.std.specs.BinaryHeap.{heap_items, heap_len, IsHeap};
 ghost use Rattle.fab_model.specs.WellFormed.{IsFabric};
@@ -18,7 +18,8 @@ use std::collections::BinaryHeap;
 /// A distance, and the number of the switch that it is offered to.
 type Offer = Reverse<(u64, u32)>;
 
-/// From each switch the least weight of a walk to one; None exactly where not connected.
+/// From each switch, by its number, the least weight of a walk to one; None exactly where not connected. The error is
+/// want of memory.
 pub fn distances(
     alloc: Global,
     fabric: &Fabric,
@@ -33,17 +34,18 @@ pub fn distances(
     let mut offers = BinaryHeap::new(alloc);
     offers.push(Reverse((0, to.0)))?;
     while let Some(Reverse((distance, switch))) = offers.pop() {
-        if found[switch as usize].is_none() {
-            found[switch as usize] = Some(distance);
-            offer(
-                fabric,
-                weights,
-                SwitchId(switch),
-                distance,
-                &found,
-                &mut offers,
-            )?;
+        if found[switch as usize].is_some() {
+            continue;
         }
+        found[switch as usize] = Some(distance);
+        offer(
+            fabric,
+            weights,
+            SwitchId(switch),
+            distance,
+            &found,
+            &mut offers,
+        )?;
     }
     Ok(found)
 }

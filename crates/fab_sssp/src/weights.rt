@@ -36,7 +36,8 @@ impl Model for Weights {
 }
 
 impl Weights {
-    /// Every channel at the start weight: with S switches, T terminals and L LIDs in use, 1 + S * T * L.
+    /// Every channel at the start weight: with S switches, T terminals and L LIDs in use, 1 + S * T * L. The error is
+    /// want of memory.
     pub fn new(alloc: Global, fabric: &Fabric) -> Result<Weights, AllocError>
         ensures { IfOk result (λ weights. weights ≡ start_weights fabric.now) }
     {
@@ -61,7 +62,8 @@ impl Weights {
         self.by_channel[c.0 as usize]
     }
 
-    /// Adds to each channel the number of terminals whose walk along the tree contains it.
+    /// Adds to each channel the number of terminals whose walk along the tree contains it. It takes no memory, and linear
+    /// time in switches and terminals.
     pub fn raise(&mut self, fabric: &Fabric, tree: &Tree)
         requires made_for { WeightsFit fabric.now self.old }
         requires tree { IsTree fabric.now tree.now }

@@ -1,4 +1,5 @@
 -- Routes, and walks along trees.
+pub mod Carried
 pub mod FallingRoutes
 pub mod HopsTaken
 pub mod LoopRepeats
@@ -9,7 +10,9 @@ pub mod Routes
 pub mod RoutesBehind
 pub mod SameRoutes
 pub mod Steps
+pub mod SwitchSums
 pub mod TreeRoutes
 pub mod TreeWalks
+pub mod TreeWays
 pub mod Walked
 pub mod Ways

@@ -1,5 +1,6 @@
 -- Tables and lanes as rows of cells.
 pub mod Cells
+pub mod EntriesSet
 pub mod LaneSets
 pub mod LanesChange
 pub mod LevelBytes

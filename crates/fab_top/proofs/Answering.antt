@@ -27,13 +27,13 @@ use Rattle.fab_top.specs.Ran.{files_of}
 use Rattle.fab_top.specs.ReportTexts.{load_text}
 use Rattle.fab_top.specs.Seen.{Seen, WithPlan, WithBoth}
 use Rattle.fab_top.specs.Words.{command_of}
-use Rattle.fab_top.proofs.AfterFiles.{IsTold, HasRightAnswer, IsReadPlan, fabric_weaker, fabric_one, fabric_small, fabric_exists, plan_weaker, plan_one, plan_small, plan_exists}
+use Rattle.fab_top.proofs.Steps.AfterFiles.{IsTold, HasRightAnswer, IsReadPlan, fabric_weaker, fabric_one, fabric_small, fabric_exists, plan_weaker, plan_one, plan_small, plan_exists}
 use Rattle.fab_top.proofs.Certifying.{certificate_keeps, certificate_is_small, plan_keeps, plan_is_small}
 use Rattle.fab_top.proofs.Cutting.{cut_keeps, one_cut, cut_is_small, cut_exists}
 use Rattle.fab_top.proofs.Generating.{done_is_small, fitting_is_fabric, generates_truly}
 use Rattle.fab_top.proofs.Judging.{true_verdict, verdict_keeps, verdict_is_small}
 use Rattle.fab_top.proofs.Loading.{load_keeps}
-use Rattle.fab_top.proofs.EngineAnswers.{one_route, route_keeps, route_is_small, route_exists, one_demo, demo_keeps, demo_is_small, demo_exists}
+use Rattle.fab_top.proofs.Laying.EngineAnswers.{one_route, route_keeps, route_is_small, route_exists, one_demo, demo_keeps, demo_is_small, demo_exists}
 use Rattle.fab_top.proofs.Showing.{one_show, show_keeps, show_is_small, show_exists}
 use Rattle.fab_top.proofs.SpelledCommands.{HasFittingRecipe, has_fitting_recipe}
 

@@ -5,7 +5,7 @@ use Rattle.fab_top.specs.Answer.{Answer, done}
 use Rattle.fab_top.specs.Answers.{IsFabricText}
 use Rattle.fab_top.specs.Headline.{WritesTruly}
 use Rattle.fab_top.specs.Seen.{Seen, WithFabric, WithoutFailed}
-use Rattle.fab_top.proofs.AfterFiles.{IsTold, HasRightAnswer, fabric_one, fabric_small, fabric_exists, read_weaker, without_weaker, without_one, without_small, without_exists}
+use Rattle.fab_top.proofs.Steps.AfterFiles.{IsTold, HasRightAnswer, fabric_one, fabric_small, fabric_exists, read_weaker, without_weaker, without_one, without_small, without_exists}
 use Rattle.fab_top.proofs.Generating.{done_is_small, writes_truly}
 
 module _ (w : Seen) (fabric failed : ℕ) where

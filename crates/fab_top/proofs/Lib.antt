@@ -1,24 +1,18 @@
 pub mod Appends
 pub mod Putting
-pub mod Concluding
-pub mod WithoutFiles
-pub mod OnFabric
-pub mod OnBoth
+pub mod Steps
 pub mod Running
 pub mod Judging
-pub mod Taking
 pub mod Certifying
 pub mod LowNumbers
 pub mod Wording
 pub mod SpelledCommands
 pub mod ReadFits
-pub mod AfterFiles
 pub mod Generating
 pub mod Cutting
 pub mod Loading
 pub mod Showing
-pub mod TablesExist
-pub mod EnginePlans
-pub mod EngineAnswers
+pub mod Laying
 pub mod Answering
+pub mod TextLengths
 mod Examples

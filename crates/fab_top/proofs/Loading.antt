@@ -18,7 +18,7 @@ use Rattle.fab_top.specs.Outcomes.{IsRightOutcome, answer_of, CanBePut}
 use Rattle.fab_top.specs.ReportTexts.{load_line, load_text}
 use Rattle.fab_top.specs.Texts.{channel_row_text}
 use Rattle.fab_top.proofs.Appends.{appended_three, appended_both}
-use Rattle.fab_top.proofs.Concluding.{found_at_most_1}
+use Rattle.fab_top.proofs.Steps.Concluding.{found_at_most_1}
 use Rattle.fab_top.proofs.Generating.{done_is_small}
 
 -- as many loads as channels

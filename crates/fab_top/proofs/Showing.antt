@@ -21,8 +21,8 @@ use Rattle.fab_top.specs.Headline.{Done, IsDoneIfDelivered, ShowsTruly}
 use Rattle.fab_top.specs.Outcomes.{FindsRightly, answer_of, CanBePut}
 use Rattle.fab_top.specs.Seen.{After}
 use Rattle.fab_top.specs.Taking.{IsTaken}
-use Rattle.fab_top.proofs.AfterFiles.{HasRightAnswer, after_weaker, after_one, after_small, after_exists}
-use Rattle.fab_top.proofs.Concluding.{found_at_most_1, name_taken, name_stops}
+use Rattle.fab_top.proofs.Steps.AfterFiles.{HasRightAnswer, after_weaker, after_one, after_small, after_exists}
+use Rattle.fab_top.proofs.Steps.Concluding.{found_at_most_1, name_taken, name_stops}
 
 -- ---- the answer
 

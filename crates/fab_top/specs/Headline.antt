@@ -86,16 +86,20 @@ ShowsTruly from to t p answer = After (known_place t from) (λ place. After (kno
 abbrev pub IsDone : Topology → Plan → Answer → Type 0
 IsDone t p answer = Done answer
 
--- the text, in a file of any name, is taken as this fabric, if it isn't longer than such a file may be
+-- the text, in a file of any name, is taken as this fabric
+abbrev pub IsTakenAs : Topology → List ℕ → Type 0
+IsTakenAs t text = (name : List ℕ) → fabric_in name text ≡ Ok t
+
+-- so it is if it isn't longer than such a file may be
 abbrev pub IsFabricAgain : Topology → List ℕ → Type 0
-IsFabricAgain t text = length text ≤ fabric_limit → (name : List ℕ) → fabric_in name text ≡ Ok t
+IsFabricAgain t text = length text ≤ fabric_limit → IsTakenAs t text
 
 abbrev pub WritesTruly : Topology → Answer → Type 0
 WritesTruly t answer = Done answer × IsFabricAgain t answer.out
 
--- a recipe gives a fabric in order, and its text
+-- a recipe gives a fabric in order, and its text, which is never too long for a file
 abbrev pub GeneratesTruly : Recipe → Answer → Type 0
-GeneratesTruly recipe answer = IsFabric (generated recipe) × WritesTruly (generated recipe) answer
+GeneratesTruly recipe answer = IsFabric (generated recipe) × Done answer × IsTakenAs (generated recipe) answer.out
 
 -- ---- route and demo
 

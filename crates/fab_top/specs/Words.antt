@@ -1,6 +1,6 @@
 -- The grammar of the words, as far as it is built:
 --     check FABRIC PLAN
---     route minhop|dor FABRIC
+--     route minhop|dor|sssp FABRIC
 --     certify FABRIC PLAN
 --     convert FABRIC PLAN
 --     cut FABRIC FAILED
@@ -62,6 +62,7 @@ abbrev pub engine_forms : List (List ℕ × (Asked → Option Engine))
 engine_forms =
     (codes "minhop", bare engine.MinHop)
     ∷ (codes "dor", bare engine.Dor)
+    ∷ (codes "sssp", bare engine.Sssp)
     ∷ []
 
 abbrev pub engine_in : List ℕ → Asked → Option Engine

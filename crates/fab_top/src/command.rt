@@ -11,6 +11,8 @@ pub enum Engine {
     MinHop,
     /// Shortest routes by the least port: dimension-order routing where port numbers stand for dimensions.
     Dor,
+    /// Walks of least weight, LID after LID; the routes laid before weigh down their channels.
+    Sssp,
 }
 
 /// What the words ask for. A file is named by the place of its word in the list of words, from 0.

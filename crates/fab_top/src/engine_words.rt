@@ -31,6 +31,7 @@ fn engine_in(name: &str, asked: Asked) -> Option<Engine>
     match name {
         "minhop" => bare(Engine::MinHop, asked),
         "dor" => bare(Engine::Dor, asked),
+        "sssp" => bare(Engine::Sssp, asked),
         _ => None,
     }
 }

@@ -1,6 +1,5 @@
 //! The engines: what each of them lays for a fabric. The time and memory are those of the engine's crate.
 ghost use Rattle.std.specs.Prelude.{◌≡◌, None};
-ghost use Rattle.fab_model.specs.WellFormed.{IsFabric};
 ghost use Rattle.fab_top.specs.declared.engines.EngineAnswer.TheVariants as engine_answer;
 ghost use Rattle.fab_top.specs.Outcomes.{LaysRightly};
 
@@ -9,6 +8,7 @@ use crate::outcome::Stop;
 use fab_balance::{dor, minhop};
 use fab_hops::Hops;
 use fab_model::Fabric;
+use fab_sssp::lay as sssp;
 use fab_tables::{Plan, Tables};
 use std::alloc::Global;
 
@@ -44,5 +44,6 @@ pub(crate) fn laid(alloc: Global, fabric: &Fabric, engine: Engine) -> Result<Eng
             let hops = Hops::of(alloc, fabric)?;
             Ok(without_lanes(dor(alloc, fabric, &hops)?))
         }
+        Engine::Sssp => Ok(without_lanes(sssp(alloc, fabric)?)),
     }
 }

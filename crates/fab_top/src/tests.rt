@@ -142,7 +142,7 @@ fn a_fabric_without_failed_cables_is_as_it_was(rt: HostRuntime) -> Result<(), Fa
 #[test]
 fn what_is_routed_is_good(rt: HostRuntime) -> Result<(), Fail> {
     let alloc = rt.alloc();
-    for engine in ["minhop", "dor"] {
+    for engine in ["minhop", "dor", "sssp"] {
         let mut shelf = shelf_of_line(alloc)?;
         let mut plan = MemorySink::new(alloc);
         let mut verdict = MemorySink::new(alloc);

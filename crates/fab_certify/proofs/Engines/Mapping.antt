@@ -1,17 +1,18 @@
 -- The engines' maps are set switch by switch, and level by level.
-use Rattle.std.proofs.Common.{◌≡◌, ◌≢◌, ℕ, ◌+◌, ◌*◌, ◌<◌, ◌≤◌, length, replicate, refl, sym, ◌∙◌, ap, inl, inr, arith, Some, None, Option, length-set}
+use Rattle.std.proofs.Common.{◌≡◌, ◌≢◌, ℕ, ◌+◌, ◌*◌, ◌<◌, ◌≤◌, length, replicate, refl, sym, ◌∙◌, ap, inl, inr, arith, length-set}
 use Rattle.std.specs.Prelude.{◌==◌, ◌&&◌, nat_lt, if◌then◌else◌, slice_index_or}
-use Rattle.std.proofs.lemmas.Bool.{cond_both, cases_lt, cases_eq, eq-eqb, ne_eqb, and_from, and_left, and_right, cond-true, cond-false, lt-ltb, le-ltb}
+use Rattle.std.proofs.lemmas.Bool.{cases_lt, cases_eq, eq-eqb, ne_eqb, and_from, and_left, and_right, cond-true, cond-false, lt-ltb, le-ltb}
 use Rattle.std.proofs.lemmas.List.{get_or-replicate, get_or_past, length-replicate}
 use Rattle.std.proofs.lemmas.List.Elements.{All-set, All-nil}
 use Rattle.fab_model.specs.Topology.{Topology, lids_of}
 use Rattle.fab_model.specs.WellFormed.{IsFabric}
 use Rattle.fab_tables.specs.declared.verdict.VirtualChannel.{VirtualChannel}
 use Rattle.fab_tables.specs.Entries.{index_of, cell}
-use Rattle.fab_tables.specs.LaneTables.{LaneTables, AreLaneTables, lane_of_level, no_lanes, level_in_column, lane, with_lane}
+use Rattle.fab_tables.specs.LaneTables.{LaneTables, AreLaneTables, lane_of_level, no_lanes, lane, with_lane}
 use Rattle.fab_tables.specs.Fit.{PairFits}
 use Rattle.fab_tables.specs.Certified.{number_of}
 use Rattle.fab_tables.proofs.Joined.Ascending.{lids_are}
+use Rattle.fab_tables.proofs.Rows.Cells.{no_level}
 use Rattle.fab_tables.proofs.Rows.LaneSets.{new_kept}
 use Rattle.fab_tables.proofs.Rows.LanesChange.{one_lane_changes}
 use Rattle.fab_certify.specs.EnginePlans.{AreEngineLanes}
@@ -78,16 +79,11 @@ module _ (t : Topology) (fabric : IsFabric t) (count : ℕ) (few : (0 < count) �
     fits = record { whole = new_kept count (length t.switches) (length t.channels) (lids_of t) few (lids_are t fabric); switches = refl; channels = refl; in_use = refl; pairs = All-nil (PairFits t) };
     lane_count = refl;
     no_pair = refl;
-    no_level = λ s lid. none s (index_of lid (lids_of t));
+    no_level = λ s lid. no_level count (length t.switches) (length t.channels) (lids_of t) s (index_of lid (lids_of t));
     no_number = no_number;
     general = λ s of_level low few_levels. all_alike (length t.switches * 16) (s * 16 + of_level) 15 ∙ sym (none_at_first s of_level);
   }
     where
-      none : (s : ℕ) (o : Option ℕ) → level_in_column first s o ≡ None
-      none s None = refl
-      none s (Some i) = cond_both (nat_lt s (length t.switches)) (slice_index_or first.levels (cell (length t.switches) i s) None) None (λ level. level ≡ None)
-          (λ e. all_alike (length (lids_of t) * length t.switches) (cell (length t.switches) i s) None) (λ e. refl)
-
       no_number : (v : VirtualChannel) → number_of first v ≡ 0
       no_number v = elim (cases_lt v.lane 15) [
         | inl low ↦ cond-true (nat_lt v.lane 15) (slice_index_or first.numbers (cell 15 v.channel.0 v.lane) 0) 0 (lt-ltb v.lane 15 low) ∙ all_alike (length t.channels * 15) (cell 15 v.channel.0 v.lane) 0

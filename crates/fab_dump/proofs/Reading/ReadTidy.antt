@@ -10,9 +10,10 @@ use Rattle.fab_model.specs.Topology.{Topology, lids_of}
 use Rattle.fab_model.specs.WellFormed.{IsFabric}
 use Rattle.fab_tables.specs.declared.plan.Plan.{Plan}
 use Rattle.fab_tables.specs.Entries.{index_of, cell}
-use Rattle.fab_tables.specs.LaneTables.{LaneTables, no_lanes, level, level_in_column, number}
+use Rattle.fab_tables.specs.LaneTables.{LaneTables, no_lanes, level, number}
 use Rattle.fab_tables.specs.Fit.{LanesFit, PlanFits, IsTidy}
 use Rattle.fab_tables.proofs.Joined.Ascending.{lids_are}
+use Rattle.fab_tables.proofs.Rows.Cells.{no_level as no_level_at}
 use Rattle.fab_tables.proofs.Rows.LaneSets.{new_kept}
 use Rattle.fab_dump.specs.declared.fault.PlanFault.{PlanFault}
 use Rattle.fab_dump.specs.declared.fault.PlanFault.TheVariants as fault
@@ -32,12 +33,6 @@ use Rattle.fab_dump.proofs.Reading.RowFacts.{up_to}
 abbrev pub IsCount : Option ℕ → Type 0
 IsCount count = IfSome count (λ n. (0 < n) × (n ≤ 15))
 
-abbrev nothing : Option ℕ
-nothing = None
-
-none_there : (n i : ℕ) → get_or (replicate n nothing) i nothing ≡ nothing
-none_there n i = elim (cases_lt i n) [ inl low ↦ get_or-replicate n i nothing nothing low | inr past ↦ get_or_past (replicate n nothing) i nothing (omega (arith, past, length-replicate n nothing)) ]
-
 abbrev blank : ℕ
 blank = 0
 
@@ -49,12 +44,7 @@ module _ (t : Topology) (n : ℕ) where
   fresh = no_lanes n (length t.switches) (length t.channels) (lids_of t)
 
   no_level : (s lid : ℕ) → level fresh s lid ≡ None
-  no_level s lid = go (index_of lid (lids_of t))
-    where
-      go : (o : Option ℕ) → level_in_column fresh s o ≡ None
-      go None = refl
-      go (Some i) = cond_both (nat_lt s (length t.switches)) (get_or fresh.levels (cell (length t.switches) i s) None) None (λ o. o ≡ None)
-          (λ e. none_there (length (lids_of t) * length t.switches) (cell (length t.switches) i s)) (λ e. refl)
+  no_level s lid = no_level_at n (length t.switches) (length t.channels) (lids_of t) s (index_of lid (lids_of t))
 
   no_number : (channel lane : ℕ) → number fresh channel lane ≡ 0
   no_number channel lane =

@@ -14,6 +14,7 @@ use Rattle.fab_tables.specs.declared.lanes.PairRow.{PairRow}
 use Rattle.fab_tables.specs.Entries.{index_of, cell}
 use Rattle.fab_tables.specs.LaneTables.{LaneTables, level, level_in_column, lane, number, no_lanes, with_pair_row}
 use Rattle.fab_tables.specs.Fit.{LanesFit}
+use Rattle.fab_tables.proofs.Rows.Cells.{level_there}
 use Rattle.fab_dump.specs.Given.{Given, lanes_with}
 use Rattle.fab_dump.specs.Given.Given.{LevelBlock, Level, MapBlock, Map, PairMap, Number}
 use Rattle.fab_dump.specs.Writing.{general_map, is_of_switch}
@@ -59,8 +60,7 @@ module _ (t : Topology) (l : LaneTables) (fit : LanesFit t l) where
     where
       go : (place : Option ℕ) → All (IsRight l.levels None) (column_write l.switches s (level_in_column l s place) place)
       go None = All-nil (IsRight l.levels None)
-      go (Some i) = All-cons (IsRight l.levels None) (cell l.switches i s, level_in_column l s (Some i)) []
-          (cond-true (nat_lt s l.switches) (get_or l.levels (cell l.switches i s) None) None (lt-ltb s l.switches (omega (arith, low, fit.switches)))) (All-nil (IsRight l.levels None))
+      go (Some i) = All-cons (IsRight l.levels None) (cell l.switches i s, level_in_column l s (Some i)) [] (level_there l s i (omega (arith, low, fit.switches))) (All-nil (IsRight l.levels None))
 
   levels_right : (s : ℕ) (row : SwitchRow) → s < length t.switches → All LevelsAreRight (levels_block_said t l (s, row))
   levels_right s row low = cond_both (is_source t s) (LevelBlock s ∷ map (level_of l s) (lids_of t)) [] (All LevelsAreRight)
@@ -82,7 +82,7 @@ module _ (t : Topology) (l : LaneTables) (fit : LanesFit t l) where
   level_at s j of_fabric low =
       let place : index_of (get_or (lids_of t) j 0) l.in_use ≡ Some j = ap (λ (lids : List ℕ). index_of (get_or (lids_of t) j 0) lids) fit.in_use ∙ lid_place (lids_of t) j low ascending in
       ap (λ (o : Option ℕ). level_in_column l s o) place
-      ∙ cond-true (nat_lt s l.switches) (get_or l.levels (cell l.switches j s) None) None (lt-ltb s l.switches (omega (arith, of_fabric, fit.switches)))
+      ∙ level_there l s j (omega (arith, of_fabric, fit.switches))
       ∙ ap (λ (n : ℕ). get_or l.levels (cell n j s) None) fit.switches
 
   module _ (tidy : (s lid : ℕ) → IsFalse (is_source t s) → level l s lid ≡ None) where

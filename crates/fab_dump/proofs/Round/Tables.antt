@@ -1,15 +1,15 @@
 -- The tables that a plan's text says are the plan's.
 use Rattle.std.proofs.Common.{◌≡◌, ◌≢◌, ℕ, ◌*◌, ◌<◌, List, [], length, map, get_or, replicate, refl, sym, ◌∙◌, ap, subst, arith, Option, Some, None, inr}
-use Rattle.std.specs.Prelude.{All, nat_lt, flat_map, fold}
+use Rattle.std.specs.Prelude.{All, flat_map, fold}
 use Rattle.std.specs.List.{enumerate_from}
 use Rattle.std.specs.List.Sorted.{IsStrictlyIncreasing}
-use Rattle.std.proofs.lemmas.Bool.{cond-true, lt-ltb}
 use Rattle.std.proofs.lemmas.List.{length-replicate}
 use Rattle.std.proofs.lemmas.List.Elements.{All-nil, All-cons, All-map}
 use Rattle.fab_model.specs.declared.rows.SwitchRow.{SwitchRow}
 use Rattle.fab_model.specs.Topology.{Topology, lids_of}
 use Rattle.fab_tables.specs.Entries.{Entries, index_of, cell, entry, port_in_column, no_entries}
 use Rattle.fab_tables.specs.Fit.{EntriesFit}
+use Rattle.fab_tables.proofs.Rows.Cells.{port_there}
 use Rattle.fab_dump.specs.Given.{Given, tables_with}
 use Rattle.fab_dump.specs.Given.Given.{TableBlock, Port}
 use Rattle.fab_dump.proofs.Writing.Rows.{Row, some_row}
@@ -40,8 +40,7 @@ module _ (t : Topology) (e : Entries) (fit : EntriesFit t e) where
     where
       go : (place : Option ℕ) → All (IsRight e.ports 255) (column_write e.switches s (port_in_column e s place) place)
       go None = All-nil (IsRight e.ports 255)
-      go (Some i) = All-cons (IsRight e.ports 255) (cell e.switches i s, port_in_column e s (Some i)) []
-          (cond-true (nat_lt s e.switches) (get_or e.ports (cell e.switches i s) 255) 255 (lt-ltb s e.switches (omega (arith, low, fit.switches)))) (All-nil (IsRight e.ports 255))
+      go (Some i) = All-cons (IsRight e.ports 255) (cell e.switches i s, port_in_column e s (Some i)) [] (port_there e s i (omega (arith, low, fit.switches))) (All-nil (IsRight e.ports 255))
 
   block_right : (s : ℕ) (row : SwitchRow) → s < length t.switches → All AreRight (table_said t e (s, row))
   block_right s row low = All-cons AreRight (TableBlock s) (map (port_of e s) (lids_of t)) (All-nil (IsRight e.ports 255))

@@ -1,19 +1,18 @@
 -- The counts with which passing on begins: the terminals of each switch, and for each switch those whose channel leads to it.
-use Rattle.std.proofs.Common.{◌≡◌, ◌≢◌, ℕ, zero, suc, ◌+◌, ◌*◌, ◌<◌, ◌≤◌, Bool, true, false, cond, List, [], ◌∷◌, length, take, get_or, set, Some, None, Option, slice_get, refl, sym, ◌∙◌, ap, inl, inr, ◌⊎◌, arith, get_or-set_same, get_or-set_other}
+use Rattle.std.proofs.Common.{◌≡◌, ◌≢◌, ℕ, zero, suc, ◌+◌, ◌*◌, ◌<◌, ◌≤◌, Bool, true, false, cond, List, [], ◌∷◌, length, take, get_or, set, Some, Option, slice_get, refl, sym, ◌∙◌, ap, inl, inr, ◌⊎◌, arith, get_or-set_same, get_or-set_other}
 use Rattle.std.specs.Prelude.{◌==◌, ◌&&◌, All, slice_index, count_by, sum_by}
 use Rattle.std.specs.List.{list_any}
 use Rattle.std.proofs.lemmas.Bool.{eq-eqb, ne_eqb, lt-ltb, cases_eq}
 use Rattle.std.proofs.lemmas.List.Elements.{All-head, All-tail}
-use Rattle.std.proofs.lemmas.List.Sums.{sum_by-cons, sum_by_more, sum_by-le, count_by-le-length, sum_by-take-le}
+use Rattle.std.proofs.lemmas.List.Sums.{sum_by-cons, sum_by_more, sum_by-le, count_by-le-length}
 use Rattle.std.proofs.lemmas.Option.{slice_get_within, get_or_from_slice_get}
 use Rattle.fab_model.specs.declared.rows.TerminalRow.{TerminalRow}
 use Rattle.fab_model.specs.Topology.{Topology}
 use Rattle.fab_model.specs.WellFormed.{IsWellFormed}
-use Rattle.fab_tables.specs.Route.{tip}
 use Rattle.fab_tables.specs.Trees.{next}
 use Rattle.fab_tables.specs.TreeWalks.{walk_of, terminals_through}
 use Rattle.fab_sssp.specs.Passing.{sum_below, one_if, terminals_on, walks_along, yet_to_pass, leads_to, leading_to, is_pending, pending_to, IsPassing}
-use Rattle.fab_sssp.proofs.Raising.SumsBelow.{sum_below_more, sum_below_same, sum_below_one, nothing_below}
+use Rattle.fab_sssp.proofs.Raising.SumsBelow.{sum_below_same, sum_below_one, nothing_below}
 
 -- so many of these terminals are on the switch
 abbrev pub on_switch : List TerminalRow → ℕ → ℕ
@@ -55,9 +54,6 @@ module _ (t : Topology) (good : IsWellFormed t) (k : ℕ) (p : TerminalRow) (the
   pub terminal_low : q < length t.switches
   terminal_low = omega (arith, ap (λ (r : TerminalRow). r.switch.0) (get_or_from_slice_get t.terminals k p p there), good.terminal_switches k p within)
 
-  pub terminal_fits : get_or counts q 0 + 1 < 2147483648
-  terminal_fits = omega (arith, so_far q terminal_low, sum_by-take-le (λ (r : TerminalRow). cond (r.switch.0 == q) 1 0) t.terminals k, count_by-le-length (λ (r : TerminalRow). r.switch.0 == q) t.terminals, good.lid_count)
-
   pub terminal_counted : (s : ℕ) → s < length t.switches → get_or (set counts q (get_or counts q 0 + 1)) s 0 ≡ on_switch (take (k + 1) t.terminals) s
   terminal_counted s low = omega (arith, here_or_elsewhere (cases_eq s q), so_far s low, sum_by_more (λ (r : TerminalRow). cond (r.switch.0 == s) 1 0) t.terminals k p within, ap (λ (r : TerminalRow). one_if (r.switch.0 == s)) (get_or_from_slice_get t.terminals k p p there))
     where
@@ -67,24 +63,6 @@ module _ (t : Topology) (good : IsWellFormed t) (k : ℕ) (p : TerminalRow) (the
           ∙ omega (arith, ap (λ x. get_or counts x 0) e, ap {B = ℕ} one_if (eq-eqb q s (sym e)))
       here_or_elsewhere (inr other) =
           get_or-set_other counts q s (get_or counts q 0 + 1) 0 other ∙ omega (arith, ap {B = ℕ} one_if (ne_eqb q s (λ e. other (sym e))))
-
--- ---- one switch more is counted at the tip of its channel
-
-module _ (t : Topology) (tree : List (Option ℕ)) (k : ℕ) (counts : List ℕ) (each : length counts ≡ length t.switches)
-    (so_far : (s : ℕ) → s < length t.switches → get_or counts s 0 ≡ 1 + leading_to t tree s k) where
-  pub none_leads : next tree k ≡ None → (s : ℕ) → s < length t.switches → get_or counts s 0 ≡ 1 + leading_to t tree s (k + 1)
-  none_leads none s low = omega (arith, so_far s low, sum_below_more (λ q. one_if (leads_to t (next tree q) s)) k, ap (λ o. one_if (leads_to t o s)) none)
-
-  module _ (x d : ℕ) (has : next tree k ≡ Some d) (into : tip t d ≡ x) (low_x : x < length t.switches) where
-    pub one_leads : (s : ℕ) → s < length t.switches → get_or (set counts x (get_or counts x 0 + 1)) s 0 ≡ 1 + leading_to t tree s (k + 1)
-    one_leads s low = omega (arith, here_or_elsewhere (cases_eq s x), so_far s low, sum_below_more (λ q. one_if (leads_to t (next tree q) s)) k, ap (λ o. one_if (leads_to t o s)) has, ap (λ y. one_if (y == s)) into)
-      where
-        here_or_elsewhere : (s ≡ x) ⊎ (s ≢ x) → get_or (set counts x (get_or counts x 0 + 1)) s 0 ≡ get_or counts s 0 + one_if (x == s)
-        here_or_elsewhere (inl e) =
-            ap (λ y. get_or (set counts x (get_or counts x 0 + 1)) y 0) e ∙ get_or-set_same counts x (get_or counts x 0 + 1) 0 (omega (arith, each, low_x))
-            ∙ omega (arith, ap (λ y. get_or counts y 0) e, ap {B = ℕ} one_if (eq-eqb x s (sym e)))
-        here_or_elsewhere (inr other) =
-            get_or-set_other counts x s (get_or counts x 0 + 1) 0 other ∙ omega (arith, ap {B = ℕ} one_if (ne_eqb x s (λ e. other (sym e))))
 
 -- no more lead to a switch than there are
 leading_few : (t : Topology) (tree : List (Option ℕ)) (s k : ℕ) → leading_to t tree s k ≤ k

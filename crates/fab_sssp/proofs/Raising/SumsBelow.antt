@@ -1,10 +1,7 @@
 -- Sums of a number for each switch below a bound, and of numbers with weights of which one is moved to another switch.
-use Rattle.std.proofs.Common.{◌≡◌, ◌≢◌, ℕ, zero, suc, ◌+◌, ◌*◌, ◌<◌, ◌≤◌, List, length, get_or, set, refl, sym, ◌∙◌, ap, inl, inr, arith, add-one, length-set, get_or-set_same, get_or-set_other}
+use Rattle.std.proofs.Common.{◌≡◌, ◌≢◌, ℕ, zero, suc, ◌+◌, ◌*◌, ◌<◌, ◌≤◌, List, length, get_or, set, refl, sym, ◌∙◌, ap, inl, inr, arith, length-set, get_or-set_same, get_or-set_other}
 use Rattle.std.proofs.lemmas.Bool.{cases_lt}
 use Rattle.fab_sssp.specs.Passing.{sum_below}
-
-pub sum_below_more : (f : ℕ → ℕ) (n : ℕ) → sum_below f (n + 1) ≡ sum_below f n + f n
-sum_below_more f n = rw (add-one n) refl
 
 pub sum_below_same : (f g : ℕ → ℕ) (n : ℕ) → ((k : ℕ) → k < n → f k ≡ g k) → sum_below f n ≡ sum_below g n
 sum_below_same f g zero same = refl
@@ -30,10 +27,6 @@ one_of_sum f (suc n) i low = elim (cases_lt i n) [
 pub nothing_below : (f : ℕ → ℕ) (n : ℕ) → ((k : ℕ) → k < n → f k ≡ 0) → sum_below f n ≡ 0
 nothing_below f zero none = refl
 nothing_below f (suc n) none = omega (arith, nothing_below f n (λ k h. none k (omega (arith, h))), none n (omega arith))
-
-pub sum_below_added : (f g h : ℕ → ℕ) (n : ℕ) → ((k : ℕ) → k < n → h k ≡ f k + g k) → sum_below h n ≡ sum_below f n + sum_below g n
-sum_below_added f g h zero added = refl
-sum_below_added f g h (suc n) added = omega (arith, sum_below_added f g h n (λ k x. added k (omega (arith, x))), added n (omega arith))
 
 -- the sum of the numbers of a list, each as often as it weighs
 abbrev pub weighed_sum : (ℕ → ℕ) → List ℕ → ℕ → ℕ

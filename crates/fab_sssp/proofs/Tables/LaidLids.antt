@@ -22,7 +22,7 @@ use Rattle.fab_sssp.specs.Carried.{weight_after}
 use Rattle.fab_sssp.specs.LeastWeight.{IsLeastPort}
 use Rattle.fab_sssp.specs.LeastWeightTables.{weight_at, AreLeastWeightTables}
 use Rattle.fab_sssp.specs.Laying.{IsLeastChannel, HasItsChannel, IsLaid, KeepsOtherLids}
-use Rattle.fab_sssp.proofs.Tables.EntriesSet.{no_entries_fit}
+use Rattle.fab_tables.proofs.Rows.EntriesSet.{no_entries_fit}
 use Rattle.fab_sssp.proofs.Tables.LaidTrees.{laid_is_tree_of, entry_of_channel, own_entry, other_entry}
 use Rattle.fab_sssp.proofs.Walks.LeastChannels.{joined_by_distance}
 use Rattle.fab_sssp.proofs.Tables.Turns.{running_weight, raised_weight}

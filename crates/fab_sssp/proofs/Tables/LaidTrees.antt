@@ -26,7 +26,7 @@ use Rattle.fab_sssp.specs.LeastWeight.{IsDistance}
 use Rattle.fab_sssp.specs.Laying.{IsLeastChannel, port_of_row, port_along, HasItsChannel, IsLaidAt, IsLaid}
 use Rattle.fab_sssp.proofs.Tables.OneTable.{one_distance}
 use Rattle.fab_sssp.proofs.Tables.FallingTrees.{falling_tree}
-use Rattle.fab_sssp.proofs.Tables.EntriesSet.{entry_set, entry_kept, entry_past}
+use Rattle.fab_tables.proofs.Rows.EntriesSet.{entry_set, entry_kept, entry_past}
 
 -- the terminals whose walk along the tree of a LID contains a channel are those whose route does
 pub through_carried : (t : Topology) (e : Entries) (lid : ℕ) (tree : List (Option ℕ)) → IsTreeOf t e lid tree → (channel : ℕ) → terminals_through t tree channel ≡ terminals_carried t e lid channel

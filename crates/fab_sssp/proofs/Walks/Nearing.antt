@@ -1,5 +1,5 @@
 -- Steps of a search for distances: an offer is passed over or settles its switch, and what is settled offers to the switches behind it.
-use Rattle.std.proofs.Common.{◌≡◌, ◌≢◌, ℕ, zero, suc, ◌+◌, ◌*◌, ◌<◌, ◌≤◌, Bool, true, false, not, cond, List, [], ◌∷◌, length, get_or, set, replicate, Some, None, Option, option_map, slice_get, is_some, is_none, refl, sym, ◌∙◌, ap, subst, inl, inr, ◌⊎◌, arith, length-set, get_or-set_same, get_or-set_other}
+use Rattle.std.proofs.Common.{◌≡◌, ◌≢◌, ℕ, zero, suc, ◌+◌, ◌*◌, ◌<◌, ◌≤◌, Bool, true, false, cond, List, [], ◌∷◌, length, get_or, set, replicate, Some, None, Option, option_map, slice_get, is_some, is_none, refl, sym, ◌∙◌, ap, subst, inl, inr, ◌⊎◌, arith, length-set, get_or-set_same, get_or-set_other}
 use Rattle.std.specs.Ordering.{nat_cmp, is_lt, ordering_then}
 use Rattle.std.specs.declared.cmp.Ordering.{Ordering}
 use Rattle.std.specs.declared.cmp.Ordering.TheVariants.{Less, Equal, Greater}
@@ -47,13 +47,13 @@ contains_later : (y x : Offer) (xs : List Offer) → Contains xs x → Contains 
 contains_later y x xs has = (suc has.0, omega (arith, has.1), has.2)
 
 -- what the code learns of a switch
-pub is_settled : (o : Option ℕ) (b : Bool) → is_some o ≡ not b → b ≡ false → (n : ℕ) × (o ≡ Some n)
-is_settled None b tells open_not = absurd (false≢true (tells ∙ ap not open_not))
-is_settled (Some n) b tells open_not = (n, refl)
+pub is_settled : (o : Option ℕ) → is_some o ≡ true → (n : ℕ) × (o ≡ Some n)
+is_settled None h = absurd (false≢true h)
+is_settled (Some n) h = (n, refl)
 
-pub is_open : (o : Option ℕ) (b : Bool) → is_some o ≡ not b → b ≡ true → o ≡ None
-is_open None b tells h = refl
-is_open (Some n) b tells h = absurd (false≢true (sym (tells ∙ ap not h)))
+pub is_open : (o : Option ℕ) → is_some o ≡ false → o ≡ None
+is_open None h = refl
+is_open (Some n) h = absurd (false≢true (sym h))
 
 -- ---- the search begins
 
@@ -159,15 +159,6 @@ module _ (t : Topology) (weight : ℕ → ℕ) (to : ℕ) (found : List (Option 
 
     pub one_less_open : count_by is_none grown + 1 ≡ count_by is_none found
     one_less_open = omega (arith, sum_by-set (λ (o : Option ℕ). cond (is_none o) 1 0) found y (Some distance) None (omega (arith, taken_low, near.each_switch)), ap (λ (o : Option ℕ). cond {A = ℕ} (is_none o) 1 0) none)
-
-    pub settled_small : distance + weight_limit ≤ count_by is_some grown * weight_limit
-    settled_small = omega (arith, one_more_settled, of_taken (λ o. offered_distance o ≤ count_by is_some found * weight_limit) near.small)
-
-    pub settled_farthest : (s n : ℕ) → IsFound grown s n → n ≤ distance
-    settled_farthest s n at = elim (found_before s n at) [
-      | inl here ↦ omega (arith, here.1)
-      | inr before ↦ of_taken (λ o. n ≤ offered_distance o) (near.farther s n before)
-    ]
 
     attained_still : (s n : ℕ) → IsAttained t weight to found s n → IsAttained t weight to grown s n
     attained_still s n (inl here) = inl here

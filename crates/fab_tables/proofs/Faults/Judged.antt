@@ -1,5 +1,5 @@
 -- Hops that are right, and marks of the switches from which on they are.
-use Rattle.std.proofs.Common.{◌≡◌, ℕ, zero, suc, ◌+◌, ◌-◌, ◌<◌, List, [], ◌∷◌, length, drop, replicate, refl, sym, ◌∙◌, ap, subst, inl, inr, arith, Some, None, Option, slice_get, Bool, true, false}
+use Rattle.std.proofs.Common.{◌≡◌, ℕ, zero, suc, ◌+◌, ◌-◌, ◌<◌, List, [], ◌∷◌, length, drop, replicate, refl, sym, ◌∙◌, ap, subst, inl, inr, arith, Some, None, Option, slice_get, Bool, false}
 use Rattle.std.specs.Prelude.{slice_index_or}
 use Rattle.std.proofs.lemmas.Bool.{cases_lt, false≢true}
 use Rattle.std.proofs.lemmas.List.{get_or-replicate, get_or_past, length-replicate}

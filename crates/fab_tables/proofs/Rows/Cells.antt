@@ -1,12 +1,13 @@
 -- A set changes one value and no other: rows of cells, one after the other in a list.
-use Rattle.std.proofs.Common.{◌≡◌, ◌≢◌, ℕ, zero, suc, ◌+◌, ◌*◌, ◌<◌, ◌≤◌, Bool, true, false, List, [], ◌∷◌, length, refl, sym, ◌∙◌, ap, subst, arith, Some, None, Option, ◌⊎◌, inl, inr, get_or-set_same, get_or-set_other}
+use Rattle.std.proofs.Common.{◌≡◌, ◌≢◌, ℕ, zero, suc, ◌+◌, ◌*◌, ◌<◌, ◌≤◌, Bool, true, false, List, [], ◌∷◌, length, refl, sym, ◌∙◌, ap, subst, arith, Some, None, Option, ◌⊎◌, inl, inr, replicate, get_or-set_same, get_or-set_other}
 use Rattle.std.proofs.Math.Nat.{mul-le-mul_left}
 use Rattle.std.proofs.Math.Bool.{and_comm}
-use Rattle.std.proofs.lemmas.Bool.{cases_order, ne_eqb, and_from, and_left, and_right, ltb-true, ltb-false}
+use Rattle.std.proofs.lemmas.Bool.{cases_order, cases_lt, ne_eqb, and_from, and_left, and_right, cond-true, cond-false, lt-ltb, le-ltb, ltb-true, ltb-false}
+use Rattle.std.proofs.lemmas.List.{get_or-replicate, get_or_past, length-replicate}
 use Rattle.std.proofs.lemmas.Bool.Decides.{eqb_tells}
 use Rattle.std.specs.Prelude.{slice_get, slice_index_or, slice_set, ◌==◌, ◌&&◌, if◌then◌else◌, option_map, nat_lt}
-use Rattle.fab_tables.specs.Entries.{Entries, AreEntries, index_of, cell, port_in_column, with_port_in_column, with_entry}
-use Rattle.fab_tables.specs.LaneTables.{LaneTables, AreLaneTables, level_in_column, with_level_in_column, with_level, number, with_number}
+use Rattle.fab_tables.specs.Entries.{Entries, AreEntries, index_of, cell, port_in_column, with_port_in_column, with_entry, no_entries}
+use Rattle.fab_tables.specs.LaneTables.{LaneTables, AreLaneTables, level_in_column, with_level_in_column, with_level, no_lanes}
 use Rattle.fab_tables.specs.Laws.{OneEntryChanges, OneLevelChanges, OneNumberChanges}
 
 -- a row that comes first is over before the other begins
@@ -124,6 +125,40 @@ same_test m n xs i j x y = go (eqb_tells j i) (eqb_tells n m)
 -- a number that has no place is another
 other_test : (m n : ℕ) (xs : List ℕ) (i : ℕ) → index_of m xs ≡ Some i → index_of n xs ≡ None → (n == m) ≡ false
 other_test m n xs i x y = ne_eqb n m (λ e. none_some i (sym y ∙ ap (λ k. index_of k xs) e ∙ x))
+
+-- the port of a switch in the column of a LID, and behind the last switch
+pub port_there : (e : Entries) (s i : ℕ) → s < e.switches → port_in_column e s (Some i) ≡ slice_index_or e.ports (cell e.switches i s) 255
+port_there e s i low = cond-true (nat_lt s e.switches) (slice_index_or e.ports (cell e.switches i s) 255) 255 (lt-ltb s e.switches low)
+
+pub port_past : (e : Entries) (s : ℕ) (o : Option ℕ) → e.switches ≤ s → port_in_column e s o ≡ 255
+port_past e s None past = refl
+port_past e s (Some i) past = cond-false (nat_lt s e.switches) (slice_index_or e.ports (cell e.switches i s) 255) 255 (le-ltb s e.switches past)
+
+-- and likewise a level
+pub level_there : (l : LaneTables) (s i : ℕ) → s < l.switches → level_in_column l s (Some i) ≡ slice_index_or l.levels (cell l.switches i s) None
+level_there l s i low = cond-true (nat_lt s l.switches) (slice_index_or l.levels (cell l.switches i s) None) None (lt-ltb s l.switches low)
+
+pub level_past : (l : LaneTables) (s : ℕ) (o : Option ℕ) → l.switches ≤ s → level_in_column l s o ≡ None
+level_past l s None past = refl
+level_past l s (Some i) past = cond-false (nat_lt s l.switches) (slice_index_or l.levels (cell l.switches i s) None) None (le-ltb s l.switches past)
+
+-- at first there is neither
+all_alike : {A : Type 0} (n i : ℕ) (x : A) → slice_index_or (replicate n x) i x ≡ x
+all_alike n i x = elim (cases_lt i n) [ inl low ↦ get_or-replicate n i x x low | inr past ↦ get_or_past (replicate n x) i x (omega (arith, length-replicate n x)) ]
+
+pub no_port : (switches : ℕ) (lids : List ℕ) (s : ℕ) (o : Option ℕ) → port_in_column (no_entries switches lids) s o ≡ 255
+no_port switches lids s None = refl
+no_port switches lids s (Some i) = elim (cases_lt s switches) [
+  | inl low ↦ port_there (no_entries switches lids) s i low ∙ all_alike (length lids * switches) (cell switches i s) 255
+  | inr past ↦ port_past (no_entries switches lids) s (Some i) past
+]
+
+pub no_level : (count switches channels : ℕ) (lids : List ℕ) (s : ℕ) (o : Option ℕ) → level_in_column (no_lanes count switches channels lids) s o ≡ None
+no_level count switches channels lids s None = refl
+no_level count switches channels lids s (Some i) = elim (cases_lt s switches) [
+  | inl low ↦ level_there (no_lanes count switches channels lids) s i low ∙ all_alike (length lids * switches) (cell switches i s) None
+  | inr past ↦ level_past (no_lanes count switches channels lids) s (Some i) past
+]
 
 module _ (e : Entries) (are : AreEntries e) (s lid port o n : ℕ) (low : s < e.switches) where
   entry_changes : (x y : Option ℕ) → index_of lid e.in_use ≡ x → index_of n e.in_use ≡ y → (x ≡ None → ⊥) →

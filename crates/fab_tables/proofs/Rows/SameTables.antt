@@ -9,6 +9,7 @@ use Rattle.fab_tables.specs.declared.lanes.PairRow.{PairRow}
 use Rattle.fab_tables.specs.Entries.{Entries, index_of, cell, port_in_column, entry}
 use Rattle.fab_tables.specs.LaneTables.{LaneTables, AreLaneTables, level, level_in_column, lane, lane_of_level, number, HasLanePerLevel}
 use Rattle.fab_tables.specs.Fit.{EntriesFit, LanesFit}
+use Rattle.fab_tables.proofs.Rows.Cells.{port_there, level_there}
 use Rattle.fab_tables.proofs.Rows.SameCells.{same_cells, place_is}
 
 -- tables with the same entries are the same
@@ -17,7 +18,7 @@ module _ (t : Topology) (e f : Entries) (x : EntriesFit t e) (y : EntriesFit t f
   entry_at g s i z of_fabric low =
       sym (ap (λ ns. port_in_column g s (index_of (slice_index_or (lids_of t) i 0) ns)) z.in_use
       ∙ ap (λ o. port_in_column g s o) (place_is (lids_of t) i (subst IsStrictlyIncreasing z.in_use z.whole.ascending) low)
-      ∙ cond-true (nat_lt s g.switches) (slice_index_or g.ports (cell g.switches i s) 255) 255 (lt-ltb s g.switches (omega (arith, of_fabric, z.switches)))
+      ∙ port_there g s i (omega (arith, of_fabric, z.switches))
       ∙ ap (λ n. slice_index_or g.ports (cell n i s) 255) z.switches)
 
   ports : e.ports ≡ f.ports
@@ -45,7 +46,7 @@ module _ (t : Topology) (l m : LaneTables) (x : LanesFit t l) (y : LanesFit t m)
   level_at k s i z of_fabric low =
       sym (ap (λ ns. level_in_column k s (index_of (slice_index_or (lids_of t) i 0) ns)) z.in_use
       ∙ ap (λ o. level_in_column k s o) (place_is (lids_of t) i (subst IsStrictlyIncreasing z.in_use z.whole.ascending) low)
-      ∙ cond-true (nat_lt s k.switches) (slice_index_or k.levels (cell k.switches i s) None) None (lt-ltb s k.switches (omega (arith, of_fabric, z.switches)))
+      ∙ level_there k s i (omega (arith, of_fabric, z.switches))
       ∙ ap (λ n. slice_index_or k.levels (cell n i s) None) z.switches)
 
   levels : m.levels ≡ l.levels

@@ -1,9 +1,9 @@
 -- Words of the commands that route.
-use Rattle.std.proofs.Common.{◌≡◌, List, [], ◌∷◌, codes, refl}
+use Rattle.std.proofs.Common.{◌≡◌, [], ◌∷◌, codes, refl}
 use Rattle.std.specs.Prelude.{None, Some}
 use Rattle.fab_report.specs.declared.recipe.Kind.TheVariants.{Tree}
 use Rattle.fab_top.specs.declared.command.Command.TheVariants.{Route, Demo}
-use Rattle.fab_top.specs.declared.command.Engine.TheVariants.{MinHop, Dor}
+use Rattle.fab_top.specs.declared.command.Engine.TheVariants.{MinHop, Dor, Sssp}
 use Rattle.fab_top.specs.Words.{command_of}
 
 route_dor : command_of (codes "route" ∷ codes "dor" ∷ codes "F" ∷ []) ≡ Some (Route 2 Dor)
@@ -11,6 +11,9 @@ route_dor = refl
 
 dor_takes_no_lanes : command_of (codes "route" ∷ codes "dor" ∷ codes "F" ∷ codes "--lanes" ∷ codes "2" ∷ []) ≡ None
 dor_takes_no_lanes = refl
+
+route_sssp : command_of (codes "route" ∷ codes "sssp" ∷ codes "F" ∷ []) ≡ Some (Route 2 Sssp)
+route_sssp = refl
 
 no_such_engine : command_of (codes "route" ∷ codes "ftree" ∷ codes "F" ∷ []) ≡ None
 no_such_engine = refl

@@ -7,7 +7,7 @@ use Rattle.fab_tables.specs.Entries.{Entries}
 use Rattle.fab_balance.specs.Eligible.{AreNearerPorts}
 use Rattle.fab_balance.specs.MinHop.{IsMinHopChoice}
 use Rattle.fab_balance.proofs.LidPlaces.{has_place}
-use Rattle.fab_balance.proofs.EntriesSet.{entries_keep}
+use Rattle.fab_tables.proofs.Rows.EntriesSet.{entries_keep}
 use Rattle.fab_balance.proofs.Choosing.{all_chosen}
 use Rattle.fab_balance.proofs.Balancing.{IsOneMore, none_balanced, one_picked, none_picked, counted, not_counted, counter_small}
 use Rattle.fab_balance.proofs.min_hop_tables.choose_balanced.Goals as goal

@@ -1,4 +1,4 @@
-use Rattle.std.proofs.Common.{◌≡◌, ℕ, List, [], ◌∷◌, ◌++◌, take, get_or, ap, ◌∙◌, arith, rules}
+use Rattle.std.proofs.Common.{ℕ, List, [], ◌∷◌, ◌++◌, ap, ◌∙◌, rules}
 use Rattle.std.proofs.lemmas.Cmp.{then_total, on_total, nat_cmp_total}
 use Rattle.std.proofs.lemmas.List.{take_all}
 use Rattle.std.proofs.lemmas.List.Sorted.{answers_always}
@@ -9,8 +9,8 @@ use Rattle.fab_model.specs.Built.{by_tail}
 use Rattle.fab_model.specs.Topology.{reversed}
 use Rattle.fab_model.proofs.Lists.Sorted.{in_order-by_key}
 use Rattle.fab_model.proofs.Made.Links.{by_tail-compared}
-use Rattle.fab_report.proofs.CableLists.{both_ways}
-use Rattle.fab_report.proofs.Growing.{two_more, grows_along}
+use Rattle.fab_report.proofs.Cabling.CableLists.{both_ways}
+use Rattle.fab_report.proofs.Cabling.Growing.{two_more, grows_along}
 use Rattle.fab_report.proofs.cables.channels_of.Goals as goal
 
 pub loop-row-preserved : goal.loop-row-preserved

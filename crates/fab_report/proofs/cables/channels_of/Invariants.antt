@@ -1,5 +1,5 @@
 use Rattle.std.proofs.Common.{◌≡◌, take}
-use Rattle.fab_report.proofs.CableLists.{both_ways}
+use Rattle.fab_report.proofs.Cabling.CableLists.{both_ways}
 use Rattle.fab_report.proofs.cables.channels_of.Given as goal
 
 abbrev pub invariant-loop-row : goal.invariant-loop-row

@@ -1,4 +1,4 @@
-use Rattle.fab_report.proofs.RegularRows.{leaf_cable_more}
+use Rattle.fab_report.proofs.Generated.RegularRows.{leaf_cable_more}
 use Rattle.fab_report.proofs.cables.push_leaf_cables.Goals as goal
 
 pub loop-top-preserved : goal.loop-top-preserved

@@ -1,4 +1,4 @@
-use Rattle.std.proofs.Common.{◌≡◌, ◌-◌, ◌++◌, ◌+◌, ℕ, map}
+use Rattle.std.proofs.Common.{◌≡◌, ◌-◌, ◌++◌, ◌+◌, map}
 use Rattle.std.specs.List.{range_with_len}
 use Rattle.fab_report.specs.Cabling.{cable}
 use Rattle.fab_report.proofs.cables.push_leaf_cables.Given as goal

@@ -1,4 +1,4 @@
-use Rattle.fab_report.proofs.RegularRows.{ring_cable_more}
+use Rattle.fab_report.proofs.Generated.RegularRows.{ring_cable_more}
 use Rattle.fab_report.proofs.cables.ring_cables.Goals as goal
 
 pub loop-s-preserved : goal.loop-s-preserved

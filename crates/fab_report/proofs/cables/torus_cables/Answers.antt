@@ -1,10 +1,10 @@
-use Rattle.std.proofs.Common.{◌≡◌, ◌<◌, ◌≤◌, ◌+◌, ◌*◌, ℕ, List, [], ◌∷◌, ◌++◌, ap, ◌∙◌, arith}
+use Rattle.std.proofs.Common.{◌<◌, ◌+◌, [], ◌∷◌, ◌++◌, ap, ◌∙◌, arith}
 use Rattle.std.specs.Prelude.{◌/◌, ◌%◌}
-use Rattle.std.proofs.lemmas.Nat.{mul-le, mul-add-lt, div_below, mod_below}
+use Rattle.std.proofs.lemmas.Nat.{mul-add-lt, div_below, mod_below}
 use Rattle.fab_model.specs.declared.rows.ChannelRow.{ChannelRow}
 use Rattle.fab_report.specs.Cabling.{cable}
-use Rattle.fab_report.specs.Recipes.{at_grid, torus_cables_of}
-use Rattle.fab_report.proofs.Growing.{two_more, grows}
+use Rattle.fab_report.specs.Recipes.{torus_cables_of}
+use Rattle.fab_report.proofs.Cabling.Growing.{two_more, grows}
 use Rattle.fab_report.proofs.cables.torus_cables.Goals as goal
 
 pub at_grid-right-requires : goal.at_grid-right-requires

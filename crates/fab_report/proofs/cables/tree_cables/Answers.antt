@@ -1,5 +1,5 @@
 use Rattle.fab_report.specs.Recipes.{leaf_cables}
-use Rattle.fab_report.proofs.Growing.{grows}
+use Rattle.fab_report.proofs.Cabling.Growing.{grows}
 use Rattle.fab_report.proofs.cables.tree_cables.Goals as goal
 
 pub loop-leaf-preserved : goal.loop-leaf-preserved

@@ -1,5 +1,5 @@
 use Rattle.std.proofs.Common.{List, ℕ, length, ap, ◌∙◌, arith}
-use Rattle.fab_report.proofs.Bounds.{route_short}
+use Rattle.fab_report.proofs.Reporting.Bounds.{route_short}
 use Rattle.fab_report.proofs.ends.delivered_hops.Goals as goal
 
 pub overflow_add-hops : goal.overflow_add-hops

@@ -1,8 +1,14 @@
-use Rattle.std.proofs.Common.{◌+◌, ℕ, length}
-use Rattle.std.specs.Prelude.{sum_by, slice_index}
-use Rattle.std.specs.List.{range_with_len}
-use Rattle.fab_report.specs.Counting.{AreCounts, load_from}
+use Rattle.std.proofs.Common.{◌≡◌, length, reverse, vec_len}
+use Rattle.fab_report.specs.Order.{AreInOrder}
+use Rattle.fab_report.proofs.Carrying.CarrySteps.{IsUnderWay}
 use Rattle.fab_report.proofs.loads.add_routes.Given as goal
 
-abbrev pub invariant-loop-s : goal.invariant-loop-s
-invariant-loop-s l = AreCounts (λ channel. slice_index l.fn.counts channel + sum_by (load_from l.fabric l.tables l.lid.0 channel) (range_with_len 0 l.s)) (length l.fabric.channels) l.counts
+abbrev pub invariant-loop-channel : goal.invariant-loop-channel
+invariant-loop-channel l = record {
+  room : length l.order.marks.items ≡ length l.fabric.switches;
+  order : AreInOrder l.fabric l.tables l.fn.lid.0 (reverse l.order.channels.items);
+  carrying : IsUnderWay l.fabric l.tables l.fn.lid.0 l.fn.counts l.fn.amounts (reverse l.order.channels.items) l.counts l.amounts;
+}
+
+abbrev pub decreases-loop-channel : goal.decreases-loop-channel
+decreases-loop-channel l = vec_len l.order.channels

@@ -1,7 +1,7 @@
-use Rattle.std.proofs.Common.{◌≡◌, ◌<◌, ℕ, length, Some, slice_get, arith, sym, ap, ◌∙◌}
+use Rattle.std.proofs.Common.{◌≡◌, ◌<◌, length, arith}
 use Rattle.std.specs.Prelude.{slice_index}
 use Rattle.std.proofs.lemmas.List.{get_or_read}
-use Rattle.fab_report.proofs.LoadSums.{terminal_low, terminals_few, terminal_counted_from}
+use Rattle.fab_report.proofs.Reporting.LoadSums.{terminal_low, terminals_few, terminal_counted_from}
 use Rattle.fab_report.proofs.loads.terminal_counts.Goals as goal
 
 pub overflow_add-index_mut : goal.overflow_add-index_mut

@@ -1,4 +1,4 @@
-use Rattle.std.proofs.Common.{ℕ, take, length}
+use Rattle.std.proofs.Common.{take, length}
 use Rattle.std.specs.Prelude.{count_by, ◌==◌}
 use Rattle.fab_model.specs.declared.rows.TerminalRow.{TerminalRow}
 use Rattle.fab_report.specs.Counting.{AreCounts}

@@ -1,4 +1,4 @@
-use Rattle.fab_report.proofs.NodeRows.{adapter_more}
+use Rattle.fab_report.proofs.Generated.NodeRows.{adapter_more}
 use Rattle.fab_report.proofs.nodes.adapter_rows.Goals as goal
 
 pub loop-number-preserved : goal.loop-number-preserved

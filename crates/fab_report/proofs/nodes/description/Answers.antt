@@ -1,7 +1,7 @@
 use Rattle.std.proofs.Common.{◌≡◌, ◌++◌, List, ℕ, sym, ◌∙◌, ap, subst}
 use Rattle.std.specs.Prelude.{decimal}
 use Rattle.fab_model.specs.Description.{IsDescription}
-use Rattle.fab_report.proofs.GeneratedRows.{described}
+use Rattle.fab_report.proofs.Generated.GeneratedRows.{described}
 use Rattle.fab_report.proofs.nodes.description.Goals as goal
 
 pub new-requires : goal.new-requires

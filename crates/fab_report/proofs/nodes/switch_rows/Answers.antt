@@ -1,4 +1,4 @@
-use Rattle.fab_report.proofs.NodeRows.{switch_more}
+use Rattle.fab_report.proofs.Generated.NodeRows.{switch_more}
 use Rattle.fab_report.proofs.nodes.switch_rows.Goals as goal
 
 pub loop-s-preserved : goal.loop-s-preserved

@@ -1,7 +1,7 @@
-use Rattle.std.proofs.Common.{◌≡◌, ◌-◌, ◌+◌, ◌<◌, ◌++◌, [], ◌∷◌, List, ℕ, length, arith, sym, ap, ◌∙◌, subst}
+use Rattle.std.proofs.Common.{◌≡◌, ◌-◌, ◌+◌, ◌<◌, ◌++◌, [], ◌∷◌, length, arith, ap, ◌∙◌}
 use Rattle.fab_model.specs.declared.rows.TerminalRow.{TerminalRow}
 use Rattle.fab_report.specs.Recipes.{switch_count, terminal_at}
-use Rattle.fab_report.proofs.TerminalLists.{places_so_far, rows_of, one_port_more, none_so_far, switch_done, number_small}
+use Rattle.fab_report.proofs.Generated.TerminalLists.{places_so_far, rows_of, one_port_more, none_so_far, switch_done, number_small}
 use Rattle.fab_report.proofs.nodes.terminal_rows.Goals as goal
 
 pub overflow_cast-number : goal.overflow_cast-number

@@ -1,5 +1,5 @@
 use Rattle.std.proofs.Common.{◌≡◌, ◌-◌}
-use Rattle.fab_report.proofs.TerminalLists.{places_below, places_so_far, rows_of}
+use Rattle.fab_report.proofs.Generated.TerminalLists.{places_below, places_so_far, rows_of}
 use Rattle.fab_report.proofs.nodes.terminal_rows.Given as goal
 
 abbrev pub invariant-loop-s : goal.invariant-loop-s

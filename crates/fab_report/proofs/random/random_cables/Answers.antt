@@ -1,10 +1,9 @@
-use Rattle.std.proofs.Common.{◌≡◌, ◌+◌, ◌-◌, List, ℕ, sym, ap, ◌∙◌, arith}
+use Rattle.std.proofs.Common.{◌+◌, ◌-◌, ℕ, sym, ap, ◌∙◌}
 use Rattle.rand_pcg.specs.Lcg.{Lcg}
 use Rattle.rand_pcg.specs.Pcg.{pcg32}
-use Rattle.fab_model.specs.declared.rows.ChannelRow.{ChannelRow}
 use Rattle.fab_report.specs.Cabling.{joined, crossed}
 use Rattle.fab_report.specs.Laying.{LaidCables}
-use Rattle.fab_report.proofs.Drawing.{joined_from, crossed_from, joined_step, crossed_step, crossed_all}
+use Rattle.fab_report.proofs.Cabling.Drawing.{joined_from, crossed_from, joined_step, crossed_step, crossed_all}
 use Rattle.fab_report.proofs.random.random_cables.Goals as goal
 
 pub loop-s-preserved : goal.loop-s-preserved

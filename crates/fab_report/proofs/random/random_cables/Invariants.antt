@@ -1,6 +1,6 @@
 use Rattle.std.proofs.Common.{◌≡◌, ◌-◌}
 use Rattle.fab_report.specs.Cabling.{random_cables}
-use Rattle.fab_report.proofs.Drawing.{joined_from, crossed_from}
+use Rattle.fab_report.proofs.Cabling.Drawing.{joined_from, crossed_from}
 use Rattle.fab_report.proofs.random.random_cables.Given as goal
 
 abbrev pub invariant-loop-s : goal.invariant-loop-s

@@ -1,17 +1,15 @@
-use Rattle.std.proofs.Common.{◌≡◌, ◌≤◌, List, length, arith, sym, ap, ◌∙◌, subst}
+use Rattle.std.proofs.Common.{◌≡◌, List, length, arith, sym, ap, ◌∙◌, subst}
 use Rattle.std.specs.Prelude.{IfOk}
-use Rattle.std.specs.List.{enumerate_from}
 use Rattle.std.proofs.lemmas.Result.{IfOk-weaker}
 use Rattle.fab_model.specs.declared.rows.TerminalRow.{TerminalRow}
 use Rattle.fab_model.specs.Topology.{Topology, HasNoOwnCable}
 use Rattle.fab_model.specs.WellFormed.{IsFabric}
-use Rattle.fab_report.specs.declared.recipe.Recipe.{Recipe}
 use Rattle.fab_report.specs.Recipes.{terminal_places, generated}
-use Rattle.fab_report.proofs.AllCables.{generated_has_no_own_cable}
-use Rattle.fab_report.proofs.GeneratedRows.{is_fabric}
-use Rattle.fab_report.proofs.NodeRows.{of_lists, lists_are}
-use Rattle.fab_report.proofs.Places.{are_places}
-use Rattle.fab_report.proofs.TerminalLists.{length-rows_of}
+use Rattle.fab_report.proofs.Cabling.AllCables.{generated_has_no_own_cable}
+use Rattle.fab_report.proofs.Generated.GeneratedRows.{is_fabric}
+use Rattle.fab_report.proofs.Generated.NodeRows.{lists_are}
+use Rattle.fab_report.proofs.Generated.Places.{are_places}
+use Rattle.fab_report.proofs.Generated.TerminalLists.{length-rows_of}
 use Rattle.fab_report.proofs.recipe.generate.Goals as goal
 
 pub overflow_cast-len : goal.overflow_cast-len

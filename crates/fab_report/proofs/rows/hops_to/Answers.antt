@@ -1,6 +1,5 @@
-use Rattle.std.proofs.Common.{◌≡◌, ◌+◌, ◌≤◌, ◌∙◌, ℕ, sym, ap, arith}
-use Rattle.fab_model.specs.Topology.{is_source}
-use Rattle.fab_report.proofs.HopSums.{hops_below, source_added, other_passed, hops_few}
+use Rattle.std.proofs.Common.{◌+◌, ◌∙◌, sym, arith}
+use Rattle.fab_report.proofs.Reporting.HopSums.{source_added, other_passed, hops_few}
 use Rattle.fab_report.proofs.rows.hops_to.Goals as goal
 use Rattle.fab_report.proofs.rows.hops_to.Goals.{then-has_terminal, else-has_terminal}
 

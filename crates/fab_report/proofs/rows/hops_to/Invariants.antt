@@ -1,5 +1,5 @@
 use Rattle.std.proofs.Common.{◌≡◌}
-use Rattle.fab_report.proofs.HopSums.{hops_below}
+use Rattle.fab_report.proofs.Reporting.HopSums.{hops_below}
 use Rattle.fab_report.proofs.rows.hops_to.Given as goal
 
 abbrev pub invariant-loop-s : goal.invariant-loop-s

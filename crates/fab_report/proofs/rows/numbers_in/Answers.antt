@@ -1,9 +1,9 @@
-use Rattle.std.proofs.Common.{◌≡◌, ◌<◌, ◌+◌, ◌*◌, ℕ, Option, length, get_or, max, sym, ap, ◌∙◌, subst, arith}
+use Rattle.std.proofs.Common.{◌≡◌, ◌<◌, ◌+◌, ◌*◌, Option, length, get_or, sym, ◌∙◌, subst, arith}
 use Rattle.std.specs.Prelude.{IfSome}
 use Rattle.std.proofs.lemmas.Bool.{cond-true, lt-ltb}
 use Rattle.fab_tables.specs.Fit.{LanesFit}
 use Rattle.fab_tables.specs.LaneTables.{LaneTables}
-use Rattle.fab_report.proofs.NumberCounts.{AreCounted, number_counted, zero_passed, counted_few, max_is}
+use Rattle.fab_report.proofs.Reporting.NumberCounts.{AreCounted, number_counted, zero_passed, counted_few, max_is}
 use Rattle.fab_report.proofs.rows.numbers_in.Goals as goal
 use Rattle.fab_report.proofs.rows.numbers_in.Goals.{then-number-ne0, else-number-ne0}
 

@@ -1,5 +1,5 @@
 use Rattle.std.proofs.Common.{◌+◌, ◌*◌}
-use Rattle.fab_report.proofs.NumberCounts.{AreCounted}
+use Rattle.fab_report.proofs.Reporting.NumberCounts.{AreCounted}
 use Rattle.fab_report.proofs.rows.numbers_in.Given as goal
 
 abbrev pub invariant-loop-channel : goal.invariant-loop-channel

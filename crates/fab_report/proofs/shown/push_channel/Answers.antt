@@ -1,8 +1,8 @@
-use Rattle.std.proofs.Common.{◌≡◌, ◌++◌, List, ℕ, ap, ◌∙◌}
+use Rattle.std.proofs.Common.{◌++◌, List, ℕ, ap, ◌∙◌}
 use Rattle.std.specs.Prelude.{codes}
 use Rattle.std.proofs.lemmas.Result.{on_ok_weaker}
 use Rattle.fab_text.specs.Digits.{last_digits}
-use Rattle.fab_report.proofs.HopLines.{two_parts, channel_text_is}
+use Rattle.fab_report.proofs.Reporting.HopLines.{two_parts, channel_text_is}
 use Rattle.fab_report.proofs.shown.push_channel.Goals as goal
 
 pub returns : goal.returns

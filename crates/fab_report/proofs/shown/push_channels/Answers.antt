@@ -1,10 +1,9 @@
 use Rattle.std.proofs.Common.{◌++◌, List, ℕ, ap, ◌∙◌}
 use Rattle.std.specs.Prelude.{flat_map, slice_get}
 use Rattle.fab_tables.specs.Ahead.{Ahead}
-use Rattle.fab_tables.specs.Route.{route}
 use Rattle.fab_tables.proofs.Paths.Ways.{goes_on, channel_low}
 use Rattle.fab_report.specs.Shown.{channel_text}
-use Rattle.fab_report.proofs.HopLines.{text_goes, two_parts}
+use Rattle.fab_report.proofs.Reporting.HopLines.{text_goes, two_parts}
 use Rattle.fab_report.proofs.shown.push_channels.Goals as goal
 
 pub loop-channel-init : goal.loop-channel-init

@@ -1,4 +1,4 @@
-use Rattle.std.proofs.Common.{◌≡◌, ◌++◌, ℕ}
+use Rattle.std.proofs.Common.{◌≡◌, ◌++◌}
 use Rattle.std.specs.Prelude.{flat_map, slice_get}
 use Rattle.fab_tables.specs.Route.{route}
 use Rattle.fab_tables.proofs.Paths.Ways.{IsOnWay}

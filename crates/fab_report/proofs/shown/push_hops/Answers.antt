@@ -1,11 +1,11 @@
-use Rattle.std.proofs.Common.{◌≡◌, ◌<◌, ◌++◌, List, ℕ, sym, ap, ◌∙◌, subst, arith}
+use Rattle.std.proofs.Common.{◌++◌, List, sym, ap, ◌∙◌, subst, arith}
 use Rattle.std.specs.Prelude.{All, codes, flat_map, slice_get}
 use Rattle.fab_tables.specs.declared.verdict.VirtualChannel.{VirtualChannel}
 use Rattle.fab_tables.specs.HopsAhead.{HopsAhead}
 use Rattle.fab_tables.specs.Route.{route}
 use Rattle.fab_tables.proofs.Paths.HopsTaken.{channels_low}
 use Rattle.fab_report.specs.Shown.{channel_text, number_text, numbered_line}
-use Rattle.fab_report.proofs.HopLines.{IsHop, are_hops, first_hop, hops_left, text_goes, two_parts}
+use Rattle.fab_report.proofs.Reporting.HopLines.{IsHop, are_hops, first_hop, hops_left, text_goes, two_parts}
 use Rattle.fab_report.proofs.shown.push_hops.Goals as goal
 
 pub loop-hop-init : goal.loop-hop-init

@@ -1,9 +1,9 @@
-use Rattle.std.proofs.Common.{◌≡◌, ◌++◌, ℕ}
+use Rattle.std.proofs.Common.{◌≡◌, ◌++◌}
 use Rattle.std.specs.Prelude.{All, flat_map}
 use Rattle.fab_tables.specs.Route.{route}
 use Rattle.fab_tables.specs.VirtualChannels.{on_channels}
 use Rattle.fab_report.specs.Shown.{numbered_line}
-use Rattle.fab_report.proofs.HopLines.{IsHop}
+use Rattle.fab_report.proofs.Reporting.HopLines.{IsHop}
 use Rattle.fab_report.proofs.shown.push_hops.Given as goal
 
 abbrev pub invariant-loop-hop : goal.invariant-loop-hop

@@ -5,7 +5,7 @@ use Rattle.fab_tables.proofs.Paths.FallingRoutes.{place_below}
 use Rattle.fab_sssp.specs.WeightTables.{weight_of}
 use Rattle.fab_sssp.specs.LeastWeight.{AreDistances}
 use Rattle.fab_sssp.specs.Laying.{IsLaid}
-use Rattle.fab_sssp.proofs.Tables.EntriesSet.{fits_kept, entry_kept}
+use Rattle.fab_tables.proofs.Rows.EntriesSet.{fits_kept, entry_kept}
 use Rattle.fab_sssp.proofs.Tables.LidPlaces.{has_place}
 use Rattle.fab_sssp.proofs.Tables.LaidTrees.{channel_low, one_laid, all_laid, laid_is_tree}
 use Rattle.fab_sssp.proofs.laying.lay_lid.Goals as goal

@@ -18,8 +18,8 @@ loop-distance-init c =
       near = subst (λ (found : List (Option ℕ)). IsNearing t W c.args.to.0 found offers IsAnyChannel) (sym (none ∙ ap (λ n. replicate n None) c.switches.ensures.count)) (search_begins t W c.args.to.0 c.requires.to offers pushed);
     }
 
-pub loop-distance-smaller-in-Continue-branch-3 : goal.loop-distance-smaller-in-Continue-branch-3
-loop-distance-smaller-in-Continue-branch-3 c =
+pub loop-distance-smaller : goal.loop-distance-smaller
+loop-distance-smaller c =
     let t = c.args.fabric.now in
     let W : ℕ → ℕ = λ k. weight_of c.args.weights.now k in
     let x : Offer = c.in-Some.field-0 in
@@ -28,7 +28,7 @@ loop-distance-smaller-in-Continue-branch-3 c =
     let popped = c.in-Some.ensures.permutation in
     let low : x.0.1 < length t.switches = taken_low t W c.args.to.0 found (heap_items c.loop-distance.offers) (heap_items c.pop.new.self) near x.0.0 x.0.1 popped in
     let none : slice_index_or found x.0.1 None ≡ None =
-    sym (get_or_read found x.0.1 c.index.result.now (omega (arith, low, near.each_switch)) c.index.ensures None) ∙ is_open c.index.result.now c.is_none.result c.is_none.ensures c.if-is_none.true in
+    sym (get_or_read found x.0.1 c.index.result.now (omega (arith, low, near.each_switch)) c.index.ensures None) ∙ is_open c.index.result.now (sym c.is_some.ensures ∙ c.if-is_some.false) in
     omega (
       arith,
       ap (λ n. n * (length t.channels + 1)) (one_less_open t W c.args.to.0 found (heap_items c.loop-distance.offers) (heap_items c.pop.new.self) near x.0.0 x.0.1 popped
@@ -36,26 +36,6 @@ loop-distance-smaller-in-Continue-branch-3 c =
       c.in_ok-offer.ensures.few,
       c.in-Some.ensures.len,
     )
-
-pub loop-distance-preserved-in-Continue-branch-3 : goal.loop-distance-preserved-in-Continue-branch-3
-loop-distance-preserved-in-Continue-branch-3 c =
-    let t = c.args.fabric.now in
-    let W : ℕ → ℕ = λ k. weight_of c.args.weights.now k in
-    let x : Offer = c.in-Some.field-0 in
-    let found = c.loop-distance.found.items in
-    let near = c.loop-distance.invariant.near in
-    let popped = c.in-Some.ensures.permutation in
-    let rest = heap_items c.pop.new.self in
-    let low : x.0.1 < length t.switches = taken_low t W c.args.to.0 found (heap_items c.loop-distance.offers) rest near x.0.0 x.0.1 popped in
-    let none : slice_index_or found x.0.1 None ≡ None =
-    sym (get_or_read found x.0.1 c.index.result.now (omega (arith, low, near.each_switch)) c.index.ensures None) ∙ is_open c.index.result.now c.is_none.result c.is_none.ensures c.if-is_none.true in
-    let after : IsNearing t W c.args.to.0 (set found x.0.1 (Some x.0.0)) rest (LeadsElsewhere t x.0.1) =
-    settles t W c.args.to.0 found (heap_items c.loop-distance.offers) rest near x.0.0 x.0.1 popped (nearest_first x rest (c.in-Some.ensures.below_top c.loop-distance.invariant.heap)) none in
-    let P : List (Option ℕ) → Type 0 = λ fs. IsNearing t W c.args.to.0 fs rest (LeadsElsewhere t x.0.1) → IsNearing t W c.args.to.0 fs (heap_items c.offer.new.offers) IsAnyChannel in
-    record {
-      heap = c.in_ok-offer.ensures.heap;
-      near = subst P c.deref.ensures.value (c.in_ok-offer.ensures.offered c.args.to.0) after;
-    }
 
 pub loop-distance-preserved : goal.loop-distance-preserved
 loop-distance-preserved c =
@@ -67,7 +47,27 @@ loop-distance-preserved c =
     let popped = c.in-Some.ensures.permutation in
     let rest = heap_items c.pop.new.self in
     let low : x.0.1 < length t.switches = taken_low t W c.args.to.0 found (heap_items c.loop-distance.offers) rest near x.0.0 x.0.1 popped in
-    let known : (n : ℕ) × (c.index.result.now ≡ Some n) = is_settled c.index.result.now c.is_none.result c.is_none.ensures c.if-is_none.false in
+    let none : slice_index_or found x.0.1 None ≡ None =
+    sym (get_or_read found x.0.1 c.index.result.now (omega (arith, low, near.each_switch)) c.index.ensures None) ∙ is_open c.index.result.now (sym c.is_some.ensures ∙ c.if-is_some.false) in
+    let after : IsNearing t W c.args.to.0 (set found x.0.1 (Some x.0.0)) rest (LeadsElsewhere t x.0.1) =
+    settles t W c.args.to.0 found (heap_items c.loop-distance.offers) rest near x.0.0 x.0.1 popped (nearest_first x rest (c.in-Some.ensures.below_top c.loop-distance.invariant.heap)) none in
+    let P : List (Option ℕ) → Type 0 = λ fs. IsNearing t W c.args.to.0 fs rest (LeadsElsewhere t x.0.1) → IsNearing t W c.args.to.0 fs (heap_items c.offer.new.offers) IsAnyChannel in
+    record {
+      heap = c.in_ok-offer.ensures.heap;
+      near = subst P c.deref.ensures.value (c.in_ok-offer.ensures.offered c.args.to.0) after;
+    }
+
+pub loop-distance-preserved-then-is_some : goal.loop-distance-preserved-then-is_some
+loop-distance-preserved-then-is_some c =
+    let t = c.args.fabric.now in
+    let W : ℕ → ℕ = λ k. weight_of c.args.weights.now k in
+    let x : Offer = c.in-Some.field-0 in
+    let found = c.loop-distance.found.items in
+    let near = c.loop-distance.invariant.near in
+    let popped = c.in-Some.ensures.permutation in
+    let rest = heap_items c.pop.new.self in
+    let low : x.0.1 < length t.switches = taken_low t W c.args.to.0 found (heap_items c.loop-distance.offers) rest near x.0.0 x.0.1 popped in
+    let known : (n : ℕ) × (c.index.result.now ≡ Some n) = is_settled c.index.result.now (sym c.is_some.ensures ∙ c.if-is_some.true) in
     record {
       heap = (c.in-Some.ensures.heap_order c.loop-distance.invariant.heap).0;
       near = passed_over t W c.args.to.0 found (heap_items c.loop-distance.offers) rest near x.0.0 x.0.1 popped known.0

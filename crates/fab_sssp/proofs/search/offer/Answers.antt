@@ -1,4 +1,4 @@
-use Rattle.std.proofs.Common.{ℕ, ◌+◌, ◌<◌, ◌≤◌, length, is_some, None, slice_index_or, sym, subst, arith, heap_items}
+use Rattle.std.proofs.Common.{◌∙◌, ap, not, ℕ, ◌+◌, ◌<◌, ◌≤◌, length, is_some, None, slice_index_or, sym, subst, arith, heap_items}
 use Rattle.std.proofs.lemmas.List.Sums.{count_by-le-length}
 use Rattle.fab_model.specs.Topology.{first_channel}
 use Rattle.fab_sssp.specs.WeightTables.{weight_of}
@@ -60,7 +60,7 @@ loop-leaving-preserved c =
                 w.in_ok-push.ensures.permutation (c.loop-leaving.invariant.offered to near);
           })
       | else-is_none w ↦
-          (let known = is_settled (slice_index_or c.args.found.now c.tip-from.result.0 None) c.is_none.result c.is_none.ensures w.if-is_none.false in
+          (let known = is_settled (slice_index_or c.args.found.now c.tip-from.result.0 None) (c.is_none.ensures ∙ ap not w.if-is_none.false) in
           rw w.offers-is (record {
             heap = c.loop-leaving.invariant.heap;
             few = omega (arith, c.loop-leaving.invariant.few);

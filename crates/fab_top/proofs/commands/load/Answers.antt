@@ -1,6 +1,6 @@
 use Rattle.fab_top.specs.Answers.{IsLoadAnswer}
 use Rattle.fab_top.specs.Headline.{IsDone}
-use Rattle.fab_top.proofs.OnBoth.{fabric_stops, plan_stops, both_found}
+use Rattle.fab_top.proofs.Steps.OnBoth.{fabric_stops, plan_stops, both_found}
 use Rattle.fab_top.proofs.commands.load.Goals as goal
 
 pub returns-in_err-fabric : goal.returns-in_err-fabric

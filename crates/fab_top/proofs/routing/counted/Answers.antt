@@ -1,6 +1,6 @@
 use Rattle.std.proofs.Common.{ap, ◌∙◌, ◌++◌}
 use Rattle.fab_top.proofs.Judging.{short_lanes}
-use Rattle.fab_top.proofs.EngineAnswers.{counts_told}
+use Rattle.fab_top.proofs.Laying.EngineAnswers.{counts_told}
 use Rattle.fab_top.proofs.routing.counted.Goals as goal
 
 pub verdict_text-requires : goal.verdict_text-requires

@@ -1,4 +1,4 @@
-use Rattle.fab_top.proofs.EngineAnswers.{demo_found}
+use Rattle.fab_top.proofs.Laying.EngineAnswers.{demo_found}
 use Rattle.fab_top.proofs.routing.demo.Goals as goal
 
 pub returns : goal.returns

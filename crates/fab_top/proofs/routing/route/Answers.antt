@@ -1,6 +1,6 @@
 use Rattle.fab_top.specs.Answers.{IsRouteAnswer}
 use Rattle.fab_top.specs.Headline.{RoutesTruly}
-use Rattle.fab_top.proofs.OnFabric.{on_fabric_found}
+use Rattle.fab_top.proofs.Steps.OnFabric.{on_fabric_found}
 use Rattle.fab_top.proofs.routing.route.Goals as goal
 
 pub returns : goal.returns

@@ -1,8 +1,8 @@
 use Rattle.std.proofs.Common.{ap, List, ℕ}
 use Rattle.fab_dump.specs.Writing.{plan_text}
 use Rattle.fab_top.specs.Engines.{Lays}
-use Rattle.fab_top.proofs.EngineAnswers.{plan_is_laid, plan_found, route_no, route_stops}
-use Rattle.fab_top.proofs.EnginePlans.{laid_in_order}
+use Rattle.fab_top.proofs.Laying.EngineAnswers.{plan_is_laid, plan_found, route_no, route_stops}
+use Rattle.fab_top.proofs.Laying.EnginePlans.{laid_in_order}
 use Rattle.fab_top.proofs.routing.routed.Goals as goal
 
 pub returns-in_err-plan : goal.returns-in_err-plan

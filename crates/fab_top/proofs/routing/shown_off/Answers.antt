@@ -1,5 +1,5 @@
-use Rattle.fab_top.proofs.EngineAnswers.{plan_is_laid, counts_found, demo_no, demo_stops}
-use Rattle.fab_top.proofs.EnginePlans.{laid_in_order}
+use Rattle.fab_top.proofs.Laying.EngineAnswers.{plan_is_laid, counts_found, demo_no, demo_stops}
+use Rattle.fab_top.proofs.Laying.EnginePlans.{laid_in_order}
 use Rattle.fab_top.proofs.routing.shown_off.Goals as goal
 
 pub returns-in_err-plan : goal.returns-in_err-plan

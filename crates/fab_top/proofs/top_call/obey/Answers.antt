@@ -1,5 +1,5 @@
 use Rattle.fab_top.proofs.SpelledCommands.{is_spelled}
-use Rattle.fab_top.proofs.WithoutFiles.{gen_obeyed, demo_obeyed}
+use Rattle.fab_top.proofs.Steps.WithoutFiles.{gen_obeyed, demo_obeyed}
 use Rattle.fab_top.proofs.top_call.obey.Goals as goal
 
 pub check-requires-clause-fabric : goal.check-requires-clause-fabric

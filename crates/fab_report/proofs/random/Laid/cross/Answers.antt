@@ -1,9 +1,9 @@
-use Rattle.std.proofs.Common.{◌≡◌, Bool, List, ℕ, sym, ap, subst}
+use Rattle.std.proofs.Common.{◌≡◌, Bool, List, sym, ap, subst}
 use Rattle.std.specs.Prelude.{OnOk, ◌%◌}
 use Rattle.std.proofs.lemmas.Bool.{ne_eqb}
 use Rattle.fab_model.specs.declared.rows.ChannelRow.{ChannelRow}
 use Rattle.fab_report.specs.Cabling.{unless_same}
-use Rattle.fab_report.proofs.LeastFree.{laid_cables}
+use Rattle.fab_report.proofs.Cabling.LeastFree.{laid_cables}
 use Rattle.fab_report.proofs.random.Laid.cross.Goals as goal
 
 pub returns : goal.returns

@@ -1,7 +1,7 @@
-use Rattle.std.proofs.Common.{◌+◌, ℕ, sym, ◌∙◌}
+use Rattle.std.proofs.Common.{◌+◌, sym, ◌∙◌}
 use Rattle.std.specs.Prelude.{◌%◌}
 use Rattle.fab_report.specs.Cabling.{has_free_port}
-use Rattle.fab_report.proofs.Drawing.{find_next, find_here}
+use Rattle.fab_report.proofs.Cabling.Drawing.{find_next, find_here}
 use Rattle.fab_report.proofs.random.Laid.first_free.Goals as goal
 
 pub returns-then-has_free_port : goal.returns-then-has_free_port

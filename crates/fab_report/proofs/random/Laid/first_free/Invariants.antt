@@ -1,4 +1,4 @@
-use Rattle.std.proofs.Common.{◌≡◌, ◌-◌, ◌+◌, ℕ, map, find}
+use Rattle.std.proofs.Common.{◌≡◌, ◌-◌, ◌+◌, map, find}
 use Rattle.std.specs.Prelude.{◌%◌}
 use Rattle.std.specs.List.{range_with_len}
 use Rattle.fab_report.specs.Cabling.{has_free_port}

@@ -3,7 +3,7 @@ use Rattle.std.specs.Prelude.{nat_lt, slice_index}
 use Rattle.std.proofs.lemmas.List.{get_or_read}
 use Rattle.fab_report.specs.Cabling.{has_free_port}
 use Rattle.fab_report.specs.Laying.{LaidCables}
-use Rattle.fab_report.proofs.LeastFree.{has_free_is}
+use Rattle.fab_report.proofs.Cabling.LeastFree.{has_free_is}
 use Rattle.fab_report.proofs.random.Laid.has_free_port.Goals as goal
 
 pub returns : goal.returns

@@ -1,9 +1,9 @@
-use Rattle.std.proofs.Common.{◌≡◌, ◌<◌, List, Option, ℕ, sym, ap, subst, arith}
+use Rattle.std.proofs.Common.{◌≡◌, List, Option, ℕ, sym, ap, subst, arith}
 use Rattle.std.specs.Prelude.{OnOk}
 use Rattle.fab_model.specs.declared.rows.ChannelRow.{ChannelRow}
 use Rattle.fab_report.specs.Cabling.{has_free_port, with_cable_to}
-use Rattle.fab_report.proofs.Drawing.{found_below}
-use Rattle.fab_report.proofs.LeastFree.{laid_cables}
+use Rattle.fab_report.proofs.Cabling.Drawing.{found_below}
+use Rattle.fab_report.proofs.Cabling.LeastFree.{laid_cables}
 use Rattle.fab_report.proofs.random.Laid.join.Goals as goal
 
 pub lay-requires-clause-other : goal.lay-requires-clause-other

@@ -1,9 +1,9 @@
-use Rattle.std.proofs.Common.{◌≡◌, ◌<◌, ◌+◌, ℕ, length, set, inl, inr, sym, ap, ◌∙◌, subst, arith, length-set}
+use Rattle.std.proofs.Common.{◌≡◌, ◌<◌, ◌+◌, length, set, inl, inr, sym, ap, ◌∙◌, subst, arith, length-set}
 use Rattle.std.specs.Prelude.{slice_index}
 use Rattle.std.proofs.lemmas.List.{get_or_read}
 use Rattle.fab_report.specs.Cabling.{with_cable}
 use Rattle.fab_report.specs.Laying.{LaidCables}
-use Rattle.fab_report.proofs.LeastFree.{laid_least, laid_is, laid_cables, made, with_cable_kept}
+use Rattle.fab_report.proofs.Cabling.LeastFree.{laid_least, laid_is, laid_cables, made, with_cable_kept}
 use Rattle.fab_report.proofs.random.Laid.lay.Goals as goal
 use Rattle.fab_report.proofs.random.Laid.lay.Goals.{else-port-lt-NO_PORT-via-then-port-lt-NO_PORT+else-other_port-lt-NO_PORT, else-port-lt-NO_PORT-via-else-port-lt-NO_PORT}
 

@@ -9,9 +9,9 @@ use Rattle.fab_top.specs.Files.{fabric_in, failed_in, without_failed}
 use Rattle.fab_top.specs.Headline.{WritesTruly}
 use Rattle.fab_top.specs.Outcomes.{FindsRightly}
 use Rattle.fab_top.specs.Seen.{Seen, After, WithoutFailed, word_at}
-use Rattle.fab_top.proofs.Concluding.{goes_on, stops, found}
+use Rattle.fab_top.proofs.Steps.Concluding.{goes_on, stops, found}
 use Rattle.fab_top.proofs.Running.{word_is}
-use Rattle.fab_top.proofs.Taking.{place_within}
+use Rattle.fab_top.proofs.Steps.Taking.{place_within}
 use Rattle.fab_top.proofs.commands.failed_cables.cut.Goals as goal
 
 -- what is said of the fabric without the cables is said of the fabric, and then of its list

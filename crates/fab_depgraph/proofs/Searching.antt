@@ -1,0 +1,4 @@
+-- The search forward.
+pub mod Found
+pub mod Along
+pub mod Going

@@ -1,0 +1,3 @@
+-- The plans of engines: that there are some, what holds of them, and the answers that they lead to.
+pub mod EnginePlans
+pub mod EngineAnswers

@@ -1,0 +1,37 @@
+//! Laws of up/down routing. Each function is empty; what it ensures is the law.
+ghost use Rattle.fab_updn.specs.Laws.{OneRank, OneListOfRanks, UpDownReaches, NoDownThenUp, LegalTurnsAreAcyclic, OneRefusedPair, PlanOrRefusal};
+
+/// A switch has one rank at most.
+pub fn one_rank()
+    ensures { OneRank }
+{}
+
+/// The ranks of a fabric are one list.
+pub fn one_list_of_ranks()
+    ensures { OneListOfRanks }
+{}
+
+/// Up/down tables reach.
+pub fn up_down_reaches()
+    ensures { UpDownReaches }
+{}
+
+/// A route that went down doesn't go up again.
+pub fn no_down_then_up()
+    ensures { NoDownThenUp }
+{}
+
+/// Turns that don't go down and then up close no walk.
+pub fn legal_turns_are_acyclic()
+    ensures { LegalTurnsAreAcyclic }
+{}
+
+/// One pair is refused at most.
+pub fn one_refused_pair()
+    ensures { OneRefusedPair }
+{}
+
+/// Where a pair is refused, there is no plan.
+pub fn plan_or_refusal()
+    ensures { PlanOrRefusal }
+{}
