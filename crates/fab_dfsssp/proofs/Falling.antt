@@ -24,11 +24,11 @@ abbrev pub sum_below : ℕ → (ℕ → ℕ) → ℕ
 sum_below zero f = 0
 sum_below (suc n) f = sum_below n f + f n
 
-sum_below-le : (n : ℕ) (f g : ℕ → ℕ) → ((s : ℕ) → f s ≤ g s) → sum_below n f ≤ sum_below n g
+pub sum_below-le : (n : ℕ) (f g : ℕ → ℕ) → ((s : ℕ) → f s ≤ g s) → sum_below n f ≤ sum_below n g
 sum_below-le zero f g le = omega arith
 sum_below-le (suc n) f g le = omega (arith, sum_below-le n f g le, le n)
 
-sum_below-lt : (n : ℕ) (f g : ℕ → ℕ) → ((s : ℕ) → f s ≤ g s) → (k : ℕ) → k < n → f k < g k → sum_below n f < sum_below n g
+pub sum_below-lt : (n : ℕ) (f g : ℕ → ℕ) → ((s : ℕ) → f s ≤ g s) → (k : ℕ) → k < n → f k < g k → sum_below n f < sum_below n g
 sum_below-lt zero f g le k h less = absurd (omega (arith, h))
 sum_below-lt (suc n) f g le k h less = elim (cases_lt k n) [
   | inl before ↦ omega (arith, sum_below-lt n f g le k before less, le n)
@@ -38,7 +38,7 @@ sum_below-lt (suc n) f g le k h less = elim (cases_lt k n) [
       omega (arith, sum_below-le n f g le, here))
 ]
 
-sum_by-lt : (f g : ℕ → ℕ) (xs : List ℕ) → ((x : ℕ) → f x ≤ g x) → (k x : ℕ) → slice_get xs k ≡ Some x → f x < g x → sum_by f xs < sum_by g xs
+pub sum_by-lt : (f g : ℕ → ℕ) (xs : List ℕ) → ((x : ℕ) → f x ≤ g x) → (k x : ℕ) → slice_get xs k ≡ Some x → f x < g x → sum_by f xs < sum_by g xs
 sum_by-lt f g [] le k x at less = absurd (none-some x at)
 sum_by-lt f g (y ∷ xs) le zero x at less =
     let here : f y < g y = subst (λ z. f z < g z) (sym (same_Some y x at)) less in

@@ -96,7 +96,7 @@ pub level_other : (o : Option ℕ) (n : ℕ) → option_eq nat_eq o (Some n) ≡
 level_other o n x is = both_ways (option_eq nat_eq o (Some n)) x (ap (λ p. option_eq nat_eq p (Some n)) is ∙ eq-eqb n n refl)
 
 -- a switch with a level is one of the lanes' switches, and its LID is in use
-leveled : (l : LaneTables) (s lid n : ℕ) → level l s lid ≡ Some n → (s < l.switches) × Contains l.in_use lid
+pub leveled : (l : LaneTables) (s lid n : ℕ) → level l s lid ≡ Some n → (s < l.switches) × Contains l.in_use lid
 leveled l s lid n is = go (index_of lid l.in_use) refl is
   where
     go : (place : Option ℕ) → index_of lid l.in_use ≡ place → level_in_column l s place ≡ Some n → (s < l.switches) × Contains l.in_use lid

@@ -11,3 +11,9 @@ pub mod LevelsMoved
 pub mod LevelEdges
 pub mod RouteEdges
 pub mod LaneEdges
+pub mod Releveling
+pub mod PathCounts
+pub mod LevelsLeft
+pub mod PathsMoved
+pub mod LanesStarted
+pub mod LaneBroken

@@ -14,7 +14,7 @@ use Rattle.fab_dfsssp.proofs.LevelsMoved.{levels_moved}
 
 module _ (t : Topology) (e : Entries) (count : ℕ) (old : LaneTables) (so_far : IsAssigned t e count old) where
   -- a ring of a lane that isn't the last one: the paths over its weakest edge move
-  pub step_taken : (lane : ℕ) (ring : List ℕ) (edge : ℕ × ℕ) (new : LaneTables) → IsRingToBreak t e so_far.lane_of lane ring → lane + 1 < count →
+  abbrev pub step_taken : (lane : ℕ) (ring : List ℕ) (edge : ℕ × ℕ) (new : LaneTables) → IsRingToBreak t e so_far.lane_of lane ring → lane + 1 < count →
       IsFirstLeast (λ other. paths_over t e so_far.lane_of lane other) (ring_edges ring) edge → MovesLevels t e lane edge old new → new.count ≡ count → LanesFit t new → HasLanePerLevel new → IsAssigned t e count new
   step_taken lane ring edge new found further weakest moves lane_count fits maps = record {
     steps = suc so_far.steps;
