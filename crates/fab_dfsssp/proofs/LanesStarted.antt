@@ -1,5 +1,5 @@
 -- Lanes with level 0 for each path are those with which the steps begin.
-use Rattle.std.proofs.Common.{◌≡◌, ℕ, ◌<◌, ◌≤◌, inl, inr, length, refl, ◌∙◌}
+use Rattle.std.proofs.Common.{ℕ, ◌≤◌, inl, inr, length, refl, ◌∙◌}
 use Rattle.fab_model.specs.Topology.{Topology, lids_of}
 use Rattle.fab_model.specs.Connected.{IsConnectedTo}
 use Rattle.fab_tables.specs.Entries.{Entries}

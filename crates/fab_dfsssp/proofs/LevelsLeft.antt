@@ -1,9 +1,8 @@
 -- The lanes that are left for the paths by their levels: fewer where paths over an edge of the lane move.
-use Rattle.std.proofs.Common.{◌≡◌, ℕ, ◌+◌, ◌-◌, ◌<◌, ◌≤◌, ◌⊎◌, inl, inr, length, sym, ◌∙◌, ap, arith, Some, None, Option, true}
+use Rattle.std.proofs.Common.{◌≡◌, ℕ, ◌+◌, ◌-◌, ◌<◌, ◌≤◌, ◌⊎◌, inl, inr, length, ◌∙◌, ap, arith, Some, None, Option}
 use Rattle.std.specs.Prelude.{sum_by, Contains, nat_eq}
 use Rattle.std.specs.Option.{option_eq}
 use Rattle.std.proofs.lemmas.Bool.{cases_Bool, both_ways}
-use Rattle.std.proofs.lemmas.Option.{same_Some}
 use Rattle.fab_model.specs.Topology.{Topology, lids_of}
 use Rattle.fab_model.specs.WellFormed.{IsWellFormed}
 use Rattle.fab_tables.specs.Entries.{Entries}

@@ -1,21 +1,21 @@
 -- How many paths contain an edge, switch after switch; and by levels as by lanes.
-use Rattle.std.proofs.Common.{◌≡◌, ℕ, zero, suc, ◌+◌, ◌<◌, ◌≤◌, ◌⊎◌, inl, inr, Bool, true, false, List, [], ◌∷◌, length, refl, sym, ◌∙◌, ap, arith, Some, None}
+use Rattle.std.proofs.Common.{◌≡◌, ℕ, zero, suc, ◌+◌, ◌<◌, ◌≤◌, ◌⊎◌, inl, inr, Bool, true, false, List, [], ◌∷◌, length, refl, sym, ◌∙◌, ap, arith, Some}
 use Rattle.std.proofs.Math.Path.{fun_ext}
 use Rattle.std.specs.Prelude.{slice_get, sum_by, ◌==◌, ◌&&◌, if◌then◌else◌, nat_eq}
 use Rattle.std.specs.Option.{option_eq}
-use Rattle.std.proofs.lemmas.Bool.{cases_Bool, both_ways, and_left, and_right, eq-eqb}
+use Rattle.std.proofs.lemmas.Bool.{cases_Bool, both_ways, and_left, and_right}
 use Rattle.std.proofs.lemmas.Option.{same_Some, slice_get_within, none-some}
 use Rattle.fab_model.specs.Topology.{Topology, lids_of, is_source}
 use Rattle.fab_model.specs.Connected.{IsConnectedTo}
 use Rattle.fab_tables.specs.Entries.{Entries, entry}
 use Rattle.fab_tables.specs.FixedEntries.{HasFixedEntries}
 use Rattle.fab_tables.specs.LaneTables.{LaneTables, level}
-use Rattle.fab_tables.specs.Route.{Route, route, route_within, after_hop, hop_by}
+use Rattle.fab_tables.specs.Route.{route, route_within, after_hop, hop_by}
 use Rattle.fab_tables.proofs.Joined.ConnectedDecided.{connected_to_decided}
 use Rattle.fab_certify.specs.EnginePlans.{HasLevels}
 use Rattle.fab_dfsssp.specs.Assignments.{contains_edge, is_over, count_below, paths_over}
 use Rattle.fab_dfsssp.specs.Breaking.{IsFirstLeast, edges_back_to, ring_edges}
-use Rattle.fab_dfsssp.specs.LevelPaths.{is_level_over, level_paths_to, level_paths_over}
+use Rattle.fab_dfsssp.specs.LevelPaths.{is_level_over, level_paths_over}
 use Rattle.fab_dfsssp.proofs.LevelEdges.{level_of_lane}
 use Rattle.fab_dfsssp.proofs.Weakest.{count_below_more}
 

@@ -1,5 +1,5 @@
 -- Lanes with the engines' maps whose levels are those of the assignment after some steps.
-use Rattle.std.specs.Prelude.{◌≡◌, ℕ, ◌+◌, ◌<◌}
+use Rattle.std.specs.Prelude.{◌≡◌, ℕ, ◌<◌}
 use Rattle.fab_model.specs.Topology.{Topology}
 use Rattle.fab_tables.specs.Entries.{Entries}
 use Rattle.fab_tables.specs.Fit.{LanesFit}

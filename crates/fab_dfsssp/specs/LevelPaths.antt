@@ -1,5 +1,5 @@
 -- How many paths contain an edge, where the levels of the paths say on which lane they are.
-use Rattle.std.specs.Prelude.{◌≡◌, ℕ, ◌&&◌, Bool, Some, length, sum_by, nat_eq}
+use Rattle.std.specs.Prelude.{ℕ, ◌&&◌, Bool, Some, length, sum_by, nat_eq}
 use Rattle.std.specs.Option.{option_eq}
 use Rattle.fab_model.specs.Topology.{Topology, lids_of}
 use Rattle.fab_tables.specs.Entries.{Entries}

@@ -1,4 +1,3 @@
-use Rattle.std.proofs.Common.{◌≡◌}
 use Rattle.fab_dfsssp.specs.Assigned.{IsBrokenBelow}
 use Rattle.fab_dfsssp.proofs.LevelsLeft.{levels_left}
 use Rattle.fab_dfsssp.proofs.breaking.break_lane.Given as goal

@@ -1,5 +1,4 @@
-use Rattle.std.proofs.Common.{ℕ, ◌≡◌, sym, subst, arith}
-use Rattle.fab_dfsssp.specs.Assigned.{IsBrokenBelow}
+use Rattle.std.proofs.Common.{arith}
 use Rattle.fab_dfsssp.proofs.LanesStarted.{first_broken}
 use Rattle.fab_dfsssp.proofs.StepsTaken.{steps_ended}
 use Rattle.fab_dfsssp.proofs.breaking.broken_lanes.Goals as goal

@@ -1,4 +1,4 @@
-use Rattle.std.proofs.Common.{ℕ, List, Option}
+use Rattle.std.proofs.Common.{ℕ}
 use Rattle.std.specs.Prelude.{MatchOption}
 use Rattle.std.proofs.lemmas.Result.{IfOk-weaker}
 use Rattle.fab_graph.specs.Walks.{IsEdge, IsAcyclic}

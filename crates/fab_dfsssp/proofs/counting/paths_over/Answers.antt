@@ -1,4 +1,4 @@
-use Rattle.std.proofs.Common.{◌≡◌, ℕ, ◌+◌, ◌*◌, ◌<◌, ◌≤◌, length, take, arith, sym, ◌∙◌, ap, slice_index_or, slice_index}
+use Rattle.std.proofs.Common.{ℕ, ◌+◌, ◌<◌, length, take, arith, sym, ◌∙◌, ap, slice_index_or}
 use Rattle.std.specs.Prelude.{sum_by}
 use Rattle.std.proofs.lemmas.List.Sums.{sum_by_more}
 use Rattle.fab_model.specs.Topology.{lids_of}

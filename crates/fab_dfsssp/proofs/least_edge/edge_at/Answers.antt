@@ -1,4 +1,4 @@
-use Rattle.std.proofs.Common.{◌≡◌, ◌+◌, ◌<◌, length, arith, sym, ◌∙◌, slice_get, slice_index_or, Some}
+use Rattle.std.proofs.Common.{◌≡◌, ◌+◌, arith, slice_get, slice_index_or, Some}
 use Rattle.std.proofs.lemmas.Option.{slice_get-get_or}
 use Rattle.fab_dfsssp.proofs.PathCounts.{edge_between, edge_back}
 use Rattle.fab_dfsssp.proofs.least_edge.edge_at.Goals as goal

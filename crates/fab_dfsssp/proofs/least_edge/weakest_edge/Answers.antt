@@ -1,4 +1,4 @@
-use Rattle.std.proofs.Common.{◌≡◌, ℕ, ◌+◌, ◌<◌, ◌≤◌, length, arith, sym, ◌∙◌, ap, subst}
+use Rattle.std.proofs.Common.{◌≡◌, ℕ, length, arith, subst}
 use Rattle.fab_dfsssp.specs.Breaking.{ring_edges}
 use Rattle.fab_dfsssp.specs.LevelPaths.{level_paths_over}
 use Rattle.fab_dfsssp.proofs.Weakest.{IsFirstLeastOf, first_least_one, first_least_smaller, first_least_stays, first_least_all}

@@ -4,7 +4,7 @@ use Rattle.fab_model.proofs.LidsInUse.{as_many, lid_there, contains_lid}
 use Rattle.fab_dfsssp.specs.Moving.{IsLevelOver}
 use Rattle.fab_dfsssp.proofs.LaneEdges.{level_same}
 use Rattle.fab_dfsssp.proofs.PathsMoved.{over_low, over_now, left_now, paths_moved}
-use Rattle.fab_dfsssp.proofs.Releveling.{IsOfFirst, IsSoFar, releveled_begins, lid_begins, lid_ends, level_left, level_set}
+use Rattle.fab_dfsssp.proofs.Releveling.{IsSoFar, releveled_begins, lid_begins, lid_ends, level_left, level_set}
 use Rattle.fab_dfsssp.proofs.moving.move_paths.Goals as goal
 use Rattle.fab_dfsssp.proofs.moving.move_paths.Goals.{then-eq+then-contains_edge, else-eq, else-eq-via-then-eq+else-contains_edge, else-eq-via-else-eq}
 

@@ -1,4 +1,4 @@
-use Rattle.std.proofs.Common.{ℕ, ◌+◌}
+use Rattle.std.proofs.Common.{◌+◌}
 use Rattle.fab_model.specs.Topology.{lids_of}
 use Rattle.fab_dfsssp.specs.Moving.{IsLevelOver}
 use Rattle.fab_dfsssp.proofs.Releveling.{IsReleveled, IsOfFirst, IsSoFar}

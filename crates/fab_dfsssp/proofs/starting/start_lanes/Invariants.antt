@@ -1,4 +1,3 @@
-use Rattle.std.proofs.Common.{ℕ}
 use Rattle.fab_model.specs.Topology.{lids_of}
 use Rattle.fab_tables.specs.LaneTables.{LaneTables}
 use Rattle.fab_certify.specs.EnginePlans.{AreEngineLanes}
