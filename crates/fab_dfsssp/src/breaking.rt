@@ -1,0 +1,137 @@
+//! Deadlock-free single-source shortest path routing (DFSSSP): the rings of a lane's dependencies are broken.
+//!
+//! The tables are those of least weight. A path is a source and a LID connected to it; all begin on lane 0. Lane
+//! after lane, as long as the channels that follow each other on the lane's paths close a ring, all paths over the
+//! first ring's weakest edge go to the next lane. A ring in the last lane is the refusal.
+//!
+//! Source: Domke, Hoefler and Nagel, "Deadlock-Free Oblivious Routing for Arbitrary Topologies", 2011; OpenSM's
+//! document on routing, engine `dfsssp`. Dally and Seitz: what closes no ring is free of deadlock.
+//!
+//! The simple way: for each ring the graph of its lane is built anew, each edge of the ring is counted over all paths of
+//! the lane, and the paths of the lane are gone through once more to move them. With S switches, L LIDs, H hops on the
+//! lane's paths and a ring of K edges a step takes `(K + 2) * (S * L + H)`, beside the tables of least weight and the
+//! certificate; memory: 8 bytes a hop, beside the plan.
+ghost use Rattle.std.specs.Prelude.{◌≡◌, ◌+◌, ◌<◌, ◌≤◌, IfOk, IfErr, OnOk, MatchOption};
+ghost use Rattle.fab_graph.specs.Walks.{IsAcyclic};
+ghost use Rattle.fab_graph.specs.Rings.{IsFirstRing};
+ghost use Rattle.fab_model.specs.WellFormed.{IsFabric};
+ghost use Rattle.fab_tables.specs.Certified.{IsCertified};
+ghost use Rattle.fab_tables.specs.Fit.{PlanFits, EntriesFit, LanesFit, IsTidy};
+ghost use Rattle.fab_tables.specs.FixedEntries.{HasFixedEntries};
+ghost use Rattle.fab_dfsssp.specs.Assigned.{IsBrokenBelow, EndsAtRing};
+ghost use Rattle.fab_dfsssp.specs.BrokenLanes.{AreBrokenLanes};
+ghost use Rattle.fab_dfsssp.specs.DfssspPlans.{IsDfssspPlan, IsDfssspFault};
+ghost use Rattle.fab_dfsssp.specs.LaneEdges.{IsEdgeAtLevel};
+
+use crate::lane_graph::lane_graph;
+use crate::least_edge::weakest_edge;
+use crate::moving::move_paths;
+use crate::numbered::numbered_plan;
+use crate::starting::start_lanes;
+use fab_model::Fabric;
+use fab_rings::{Ring, first_ring};
+use fab_sssp::lay;
+use fab_tables::{Lanes, Plan, Tables};
+use std::alloc::{AllocError, Global};
+use thiserror::Error;
+
+/// Why there is no plan on so many lanes.
+#[derive(Debug, Drop, Error)]
+pub enum BreakFault {
+    /// The ring that is met in the last lane, as a list of channel numbers.
+    #[error("another lane is needed for a ring")]
+    NeedsLane { ring: Ring },
+    #[error("out of memory")]
+    Memory(AllocError),
+}
+
+impl From<AllocError> for BreakFault {
+    ghost use Rattle.std.specs.Prelude.{◌≡◌};
+    ghost use Rattle.fab_dfsssp.specs.declared.breaking.BreakFault.TheVariants.{Memory};
+
+    ghost from_gives = { λ refused fault. fault ≡ Memory refused };
+
+    fn from(refused: AllocError) -> BreakFault {
+        BreakFault::Memory(refused)
+    }
+}
+
+/// The plan of least weight on so many lanes.
+pub fn dfsssp(alloc: Global, fabric: &Fabric, lanes: u8) -> Result<Plan, BreakFault>
+    requires lanes { (0 < lanes) × (lanes ≤ 15) }
+    ensures plan { IfOk result (λ plan. IsDfssspPlan fabric.now lanes plan) }
+    ensures refusal { IfErr result (λ fault. IsDfssspFault fabric.now lanes fault) }
+    ensures certified { IfOk result (λ plan. IsCertified fabric.now plan) }
+    ensures fits { IfOk result (λ plan. PlanFits fabric.now plan) }
+    ensures tidy { IfOk result (λ plan. IsTidy fabric.now plan) }
+{
+    let tables = lay(alloc, fabric)?;
+    let broken = broken_lanes(alloc, fabric, &tables, lanes)?;
+    let plan = numbered_plan(alloc, fabric, tables, broken)?;
+    Ok(plan)
+}
+
+/// The lanes at which the steps end, or the ring of the last lane.
+fn broken_lanes(
+    alloc: Global,
+    fabric: &Fabric,
+    tables: &Tables,
+    count: u8,
+) -> Result<Lanes, BreakFault>
+    requires tables { HasFixedEntries fabric.now tables.now }
+    requires count { (0 < count) × (count ≤ 15) }
+    ensures fabric { IfOk result (λ lanes. IsFabric fabric.now) }
+    ensures lanes { IfOk result (AreBrokenLanes fabric.now tables.now count) }
+    ensures refusal { IfErr result (EndsAtRing fabric.now tables.now count) }
+{
+    let mut lanes = start_lanes(alloc, fabric, count)?;
+    for lane in 0..count {
+        break_lane(alloc, fabric, tables, lane, &mut lanes)?;
+    }
+    Ok(lanes)
+}
+
+/// Moves paths of a lane to the next one until it has no ring; in the last lane a ring is the refusal.
+fn break_lane(
+    alloc: Global,
+    fabric: &Fabric,
+    tables: &Tables,
+    lane: u8,
+    lanes: &mut Lanes,
+) -> Result<(), BreakFault>
+    requires fabric { IsFabric fabric.now }
+    requires tables { HasFixedEntries fabric.now tables.now }
+    requires lane { lane < lanes.old.count }
+    requires before { IsBrokenBelow fabric.now tables.now lanes.old.count lane lanes.old }
+    ensures count { OnOk result (lanes.new.count ≡ lanes.old.count) }
+    ensures after { OnOk result (IsBrokenBelow fabric.now tables.now lanes.old.count (lane + 1) lanes.new) }
+    ensures refusal { IfErr result (EndsAtRing fabric.now tables.now lanes.old.count) }
+{
+    while let Some(ring) = ring_of_lane(alloc, fabric, tables, lanes, lane)? {
+        if lane + 1 == lanes.count() {
+            return Err(BreakFault::NeedsLane { ring });
+        }
+        let edge = weakest_edge(fabric, tables, lanes, lane, ring.nodes());
+        move_paths(fabric, tables, lane, edge, lanes);
+    }
+    Ok(())
+}
+
+/// The first ring of a lane.
+fn ring_of_lane(
+    alloc: Global,
+    fabric: &Fabric,
+    tables: &Tables,
+    lanes: &Lanes,
+    lane: u8,
+) -> Result<Option<Ring>, AllocError>
+    requires fabric { IsFabric fabric.now }
+    requires tables { EntriesFit fabric.now tables.now }
+    requires lanes { LanesFit fabric.now lanes.now }
+    ensures { IfOk result (λ ring. MatchOption ring
+        (IsAcyclic (IsEdgeAtLevel fabric.now tables.now lanes.now lane))
+        (λ nodes. IsFirstRing (IsEdgeAtLevel fabric.now tables.now lanes.now lane) nodes)) }
+{
+    let graph = lane_graph(alloc, fabric, tables, lanes, lane)?;
+    first_ring(alloc, &graph)
+}
