@@ -16,3 +16,4 @@ pub mod Laying
 pub mod Answering
 pub mod TextLengths
 mod Examples
+pub mod RootWords

@@ -1,5 +1,5 @@
 -- Words that no command has.
-use Rattle.std.proofs.Common.{◌≡◌, ℕ, ◌<◌, Bool, true, false, List, [], ◌∷◌, length, Option, None, Some, String, refl, subst, sym, ◌∙◌, ap, arith, codes, slice_index_or}
+use Rattle.std.proofs.Common.{◌≡◌, ℕ, ◌<◌, ◌&&◌, Bool, true, false, List, [], ◌∷◌, length, Option, None, Some, String, refl, subst, sym, ◌∙◌, ap, arith, codes, slice_index_or}
 use Rattle.std.specs.Prelude.{option_map, option_and_then, find, if◌then◌else◌}
 use Rattle.std.specs.Str.{bytes_eq}
 use Rattle.std.specs.String.{string_bytes}
@@ -9,7 +9,7 @@ use Rattle.fab_model.specs.declared.rows.Lid.{Lid}
 use Rattle.fab_model.specs.Topology.{lid_id}
 use Rattle.fab_top.specs.declared.command.Command.{Command}
 use Rattle.fab_top.specs.declared.command.Command.TheVariants.{Show}
-use Rattle.fab_top.specs.Words.{texts, named, kinds, show_from_to, show_words, gen_words, route_words, demo_words, command_of, commands}
+use Rattle.fab_top.specs.Words.{texts, is_file, lid_in, named, kinds, show_from_to, show_words, gen_words, route_words, demo_words, command_of, commands}
 
 -- a word that a table does not begin with is looked for behind
 other_word : (b : Bool) (xs ys : List ℕ) → Decides b (xs ≡ ys) → (ys ≡ xs → ⊥) → b ≡ false
@@ -74,6 +74,30 @@ no_show (a ∷ b ∷ []) other = refl
 no_show (a ∷ b ∷ c ∷ []) other = refl
 no_show (a ∷ b ∷ c ∷ d ∷ []) other = absurd (other (omega arith))
 no_show (a ∷ b ∷ c ∷ d ∷ x ∷ rest) other = refl
+
+no_files : (first second : Bool) (asked : Option Command) → second ≡ false → (if first && second then asked else None) ≡ None
+no_files true second asked e = ap (λ test. if test then asked else None) e
+no_files false second asked e = refl
+
+-- the first word, or the second, names no file
+pub no_show_fabric : {Z : Type 0} (others : List (String Z)) → length others ≡ 4 → (item : String Z) → item ≡ slice_index_or others 0 item → (text : List ℕ) → text ≡ string_bytes item → is_file text ≡ false → None ≡ show_words (texts others)
+no_show_fabric [] four item at text is other = absurd (omega (arith, four))
+no_show_fabric (a ∷ []) four item at text is other = absurd (omega (arith, four))
+no_show_fabric (a ∷ b ∷ []) four item at text is other = absurd (omega (arith, four))
+no_show_fabric (a ∷ b ∷ c ∷ []) four item at text is other = absurd (omega (arith, four))
+no_show_fabric (a ∷ b ∷ c ∷ d ∷ x ∷ rest) four item at text is other = absurd (omega (arith, four))
+no_show_fabric (a ∷ b ∷ c ∷ d ∷ []) four item at text is other =
+    sym (ap (λ test. if test && is_file (string_bytes b) then show_from_to (lid_in (string_bytes c)) (lid_in (string_bytes d)) else None)
+    (ap (λ (w : List ℕ). is_file w) (sym (is ∙ ap string_bytes at)) ∙ other))
+
+pub no_show_plan : {Z : Type 0} (others : List (String Z)) → length others ≡ 4 → (item : String Z) → item ≡ slice_index_or others 1 item → (text : List ℕ) → text ≡ string_bytes item → is_file text ≡ false → None ≡ show_words (texts others)
+no_show_plan [] four item at text is other = absurd (omega (arith, four))
+no_show_plan (a ∷ []) four item at text is other = absurd (omega (arith, four))
+no_show_plan (a ∷ b ∷ []) four item at text is other = absurd (omega (arith, four))
+no_show_plan (a ∷ b ∷ c ∷ []) four item at text is other = absurd (omega (arith, four))
+no_show_plan (a ∷ b ∷ c ∷ d ∷ x ∷ rest) four item at text is other = absurd (omega (arith, four))
+no_show_plan (a ∷ b ∷ c ∷ d ∷ []) four item at text is other =
+    sym (no_files (is_file (string_bytes a)) (is_file (string_bytes b)) (show_from_to (lid_in (string_bytes c)) (lid_in (string_bytes d))) (ap (λ (w : List ℕ). is_file w) (sym (is ∙ ap string_bytes at)) ∙ other))
 
 pub no_such_command : {Z : Type 0} (words : List (String Z)) (name : String Z) → 0 < length words → name ≡ slice_index_or words 0 name →
     (string_bytes name ≡ codes "check" → ⊥) → (string_bytes name ≡ codes "route" → ⊥) → (string_bytes name ≡ codes "certify" → ⊥) → (string_bytes name ≡ codes "convert" → ⊥) → (string_bytes name ≡ codes "cut" → ⊥) → (string_bytes name ≡ codes "show" → ⊥) → (string_bytes name ≡ codes "load" → ⊥) →

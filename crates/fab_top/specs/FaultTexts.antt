@@ -75,6 +75,10 @@ failed_fault_text name (failed.Memory refused) = []
 abbrev pub unknown_cable_text : List ℕ → ℕ → List ℕ
 unknown_cable_text name index = in_file name (codes "cable " ++ decimal (index + 1) ++ codes ": not in the fabric")
 
+-- a root, by its place among the named ones, which is told from 1 on
+abbrev pub unknown_root_text : ℕ → List ℕ
+unknown_root_text index = in_file (codes "root " ++ decimal (index + 1)) (codes "not in the fabric")
+
 abbrev pub without_fault_text : List ℕ → WithoutFault → List ℕ
 without_fault_text name (lost.UnknownCable index) = unknown_cable_text name index
 without_fault_text name (lost.Memory refused) = []

@@ -1,16 +1,16 @@
 -- What the files of the words say, and what else the words name. What can't be taken is refused with a text.
-use Rattle.std.specs.Prelude.{ℕ, List, length, Result, Ok, Err, ok_or, nat_lt, if◌then◌else◌}
+use Rattle.std.specs.Prelude.{ℕ, ◌+◌, List, [], ◌∷◌, length, Result, Ok, Err, ok_or, nat_lt, if◌then◌else◌}
 use Rattle.fab_text.specs.Readings.{◌>>=◌}
 use Rattle.fab_model.specs.declared.rows.Cable.{Cable}
 use Rattle.fab_model.specs.declared.rows.Place.{Place}
-use Rattle.fab_model.specs.Topology.{Topology, place_of}
+use Rattle.fab_model.specs.Topology.{Topology, switch_of, place_of}
 use Rattle.fab_model.specs.Built.{built}
 use Rattle.fab_model.specs.Without.{taken_out}
 use Rattle.fab_netdiscover.specs.Reading.{records_in}
 use Rattle.fab_tables.specs.declared.plan.Plan.{Plan}
 use Rattle.fab_dump.specs.Reading.{plan_of}
 use Rattle.fab_repair.specs.FailedList.{cables_in}
-use Rattle.fab_top.specs.FaultTexts.{too_long_text, read_fault_text, fabric_fault_text, plan_fault_text, failed_fault_text, without_fault_text, unknown_lid_text}
+use Rattle.fab_top.specs.FaultTexts.{too_long_text, read_fault_text, fabric_fault_text, plan_fault_text, failed_fault_text, unknown_root_text, without_fault_text, unknown_lid_text}
 
 -- the greatest lengths in bytes
 abbrev pub fabric_limit : ℕ
@@ -48,6 +48,11 @@ failed_in name bytes = within list_limit name bytes (by_text (failed_fault_text 
 -- the fabric without the cables that a file of this name lists, which are all in it
 abbrev pub without_failed : List ℕ → Topology → List Cable → Result Topology (List ℕ)
 without_failed name t cables = by_text (without_fault_text name) (taken_out t cables)
+
+-- the switches with these GUIDs, which are all in the fabric; the first has this number among the named ones
+abbrev pub roots_from : ℕ → Topology → List ℕ → Result (List ℕ) (List ℕ)
+roots_from index t [] = Ok []
+roots_from index t (guid ∷ others) = ok_or (switch_of t guid) (unknown_root_text index) >>= λ root. roots_from (index + 1) t others >>= λ roots. Ok (root ∷ roots)
 
 -- the place of a named LID
 abbrev pub known_place : Topology → ℕ → Result Place (List ℕ)

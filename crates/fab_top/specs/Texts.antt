@@ -79,6 +79,11 @@ HasShortLanes (NoNumber lid source at) = at.lane < 100
 HasShortLanes (NotRising lid source first second first_number second_number) = (first.lane < 100) × (second.lane < 100)
 HasShortLanes _ = Unit {0}
 
+-- ---- the refusals of engines
+
+abbrev pub no_legal_route_text : Topology → ℕ → ℕ → List ℕ
+no_legal_route_text t from to = codes "no: no legal route from switch " ++ guid_text t from ++ codes " to switch " ++ guid_text t to ++ codes "\n"
+
 -- ---- rings
 
 -- the lines of a ring of virtual channels, whose numbers are channel times lane count plus lane

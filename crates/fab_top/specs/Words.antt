@@ -1,6 +1,7 @@
 -- The grammar of the words, as far as it is built:
 --     check FABRIC PLAN
 --     route minhop|dor|sssp FABRIC
+--     route updn FABRIC, and then any number of --root GUID
 --     certify FABRIC PLAN
 --     convert FABRIC PLAN
 --     cut FABRIC FAILED
@@ -9,8 +10,8 @@
 --     gen KIND A B SEED
 --     demo KIND A B SEED ENGINE N
 -- A file's word is not empty and does not begin with two dashes. A file is named by the place of its word. Numbers are
--- decimal, without leading zeros. A LID is a decimal number, or `0x` and 1 to 4 hexadecimal digits. N is 0 for an engine that takes no
--- lane count.
+-- decimal, without leading zeros. A LID is a decimal number, or `0x` and 1 to 4 hexadecimal digits. A GUID is `0x` and 1 to 16
+-- hexadecimal digits. N is 0 for an engine that takes no lane count.
 use Rattle.std.specs.Prelude.{ℕ, ◌-◌, ◌^◌, Bool, false, ◌&&◌, not, List, [], ◌∷◌, length, map, Option, None, Some, option_map, option_and_then, find, nat_lt, ◌==◌, if◌then◌else◌, codes, String}
 use Rattle.std.specs.Bool.{then_some}
 use Rattle.std.specs.List.{starts_with}
@@ -26,7 +27,7 @@ use Rattle.fab_report.specs.Recipes.{fits}
 use Rattle.fab_top.specs.declared.command.Engine.{Engine}
 use Rattle.fab_top.specs.declared.command.Engine.TheVariants as engine
 use Rattle.fab_top.specs.declared.engine_words.Asked.{Asked}
-use Rattle.fab_top.specs.declared.engine_words.Asked.TheVariants.{Nothing, Lanes}
+use Rattle.fab_top.specs.declared.engine_words.Asked.TheVariants.{Nothing, Roots, Lanes}
 use Rattle.fab_top.specs.declared.command.Command.{Command}
 use Rattle.fab_top.specs.declared.command.Command.TheVariants as command
 
@@ -52,17 +53,24 @@ lid_in word = option_or (hex 4 word) (number_in 65535 word)
 abbrev pub named : {A : Type 0} → List (List ℕ × A) → List ℕ → Option A
 named table word = option_map (λ row. row.1) (find (λ row. bytes_eq row.0 word) table)
 
--- ---- engines, by name and by what they are asked for: nothing, or so many lanes
+-- ---- engines, by name and by what they are asked for: nothing, roots, or so many lanes
 
 abbrev pub bare : Engine → Asked → Option Engine
 bare one Nothing = Some one
+bare one (Roots guids) = None
 bare one (Lanes count) = None
+
+abbrev pub rooted : Asked → Option Engine
+rooted Nothing = Some (engine.Updn [])
+rooted (Roots guids) = Some (engine.Updn guids)
+rooted (Lanes count) = None
 
 abbrev pub engine_forms : List (List ℕ × (Asked → Option Engine))
 engine_forms =
     (codes "minhop", bare engine.MinHop)
     ∷ (codes "dor", bare engine.Dor)
     ∷ (codes "sssp", bare engine.Sssp)
+    ∷ (codes "updn", rooted)
     ∷ []
 
 abbrev pub engine_in : List ℕ → Asked → Option Engine
@@ -75,11 +83,24 @@ if_not_0 n = then_some (not (n == 0)) n
 abbrev pub lanes_in : List ℕ → Option ℕ
 lanes_in word = option_and_then if_not_0 (number_in 15 word)
 
+-- any number of roots, each behind its flag
+abbrev pub with_guid : Option ℕ → Option (List ℕ) → Option (List ℕ)
+with_guid (Some guid) (Some others) = Some (guid ∷ others)
+with_guid _ _ = None
+
+abbrev pub roots_in : List (List ℕ) → Option (List ℕ)
+roots_in [] = Some []
+roots_in (flag ∷ []) = None
+roots_in (flag ∷ guid ∷ others) = if bytes_eq flag (codes "--root") then with_guid (hex 16 guid) (roots_in others) else None
+
 -- by the words behind a fabric
+abbrev pub roots_asked : List (List ℕ) → Option Asked
+roots_asked words = option_map Roots (roots_in words)
+
 abbrev pub asked_behind : List (List ℕ) → Option Asked
 asked_behind [] = Some Nothing
-asked_behind (flag ∷ count ∷ []) = if bytes_eq flag (codes "--lanes") then option_map Lanes (lanes_in count) else None
-asked_behind _ = None
+asked_behind (flag ∷ count ∷ []) = if bytes_eq flag (codes "--lanes") then option_map Lanes (lanes_in count) else roots_asked (flag ∷ count ∷ [])
+asked_behind words = roots_asked words
 
 -- by the last word of a demonstration
 abbrev pub asked_by : List ℕ → Option Asked

@@ -1,11 +1,12 @@
 //! The commands that the words may ask for. Files are named by the places of their words, so that one name may stand
 //! for two files, as `-` does.
 
+use crate::guid_list::GuidList;
 use fab_model::Lid;
 use fab_report::Recipe;
 
 /// A routing engine, with what it is asked for.
-#[derive(Clone, Copy, Debug, PartialEq, Eq)]
+#[derive(Drop)]
 pub enum Engine {
     /// Shortest routes, balanced at each switch by how many terminals' LIDs go by each port.
     MinHop,
@@ -13,10 +14,12 @@ pub enum Engine {
     Dor,
     /// Walks of least weight, LID after LID; the routes laid before weigh down their channels.
     Sssp,
+    /// Routes that go up to a root and then down, with the GUIDs of the roots.
+    Updn(GuidList),
 }
 
 /// What the words ask for. A file is named by the place of its word in the list of words, from 0.
-#[derive(Clone, Copy, Debug, PartialEq, Eq)]
+#[derive(Drop)]
 pub enum Command {
     /// The verdict on a plan of a fabric.
     Check {

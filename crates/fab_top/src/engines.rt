@@ -5,6 +5,7 @@ ghost use Rattle.fab_top.specs.Outcomes.{LaysRightly};
 
 use crate::command::Engine;
 use crate::outcome::Stop;
+use crate::up_down::up_down;
 use fab_balance::{dor, minhop};
 use fab_hops::Hops;
 use fab_model::Fabric;
@@ -45,5 +46,6 @@ pub(crate) fn laid(alloc: Global, fabric: &Fabric, engine: Engine) -> Result<Eng
             Ok(without_lanes(dor(alloc, fabric, &hops)?))
         }
         Engine::Sssp => Ok(without_lanes(sssp(alloc, fabric)?)),
+        Engine::Updn(roots) => up_down(alloc, fabric, roots.guids()),
     }
 }

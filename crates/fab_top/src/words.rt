@@ -1,6 +1,6 @@
 //! The grammar of the words, without the program's own name. A command is found by its first word, in time that the
 //! length of the words gives.
-ghost use Rattle.std.specs.Prelude.{◌≡◌, ◌≤◌, IfSome, option_map};
+ghost use Rattle.std.specs.Prelude.{◌≡◌, ◌≤◌, IfSome, IfOk, option_map};
 ghost use Rattle.std.specs.Bool.{then_some};
 ghost use Rattle.fab_top.specs.Words.{texts, command_of, is_file, are_two_files, has_leading_zero, number_in, named, kinds, lid_in, show_from_to, show_words, recipe_in, gen_words};
 ghost use Rattle.fab_top.specs.ReadWords.{or_unknown, wants_memory};
@@ -159,40 +159,41 @@ fn gen_words(others: &[String]) -> Option<Command>
     }
 }
 
-/// The command that the words spell, if they are in the grammar.
-fn command_of(words: &[String]) -> Option<Command>
-    ensures { result ≡ command_of (texts words.now) }
+/// The command that the words spell, if they are in the grammar. The error is want of memory.
+fn command_of(alloc: Global, words: &[String]) -> Result<Option<Command>, AllocError>
+    ensures { IfOk result (λ command. command ≡ command_of (texts words.now)) }
 {
     let [name, others @ ..] = words else {
-        return None;
+        return Ok(None);
     };
     match name.as_str() {
-        "check" => on_two_files(others, Command::Check { fabric: 1, plan: 2 }),
-        "route" => route_words(others),
-        "certify" => on_two_files(others, Command::Certify { fabric: 1, plan: 2 }),
-        "convert" => on_two_files(others, Command::Convert { fabric: 1, plan: 2 }),
-        "cut" => on_two_files(
+        "check" => Ok(on_two_files(others, Command::Check { fabric: 1, plan: 2 })),
+        "route" => route_words(alloc, others),
+        "certify" => Ok(on_two_files(others, Command::Certify { fabric: 1, plan: 2 })),
+        "convert" => Ok(on_two_files(others, Command::Convert { fabric: 1, plan: 2 })),
+        "cut" => Ok(on_two_files(
             others,
             Command::Cut {
                 fabric: 1,
                 failed: 2,
             },
-        ),
-        "show" => show_words(others),
-        "load" => on_two_files(others, Command::Load { fabric: 1, plan: 2 }),
-        "gen" => gen_words(others),
-        "demo" => demo_words(others),
-        _ => None,
+        )),
+        "show" => Ok(show_words(others)),
+        "load" => Ok(on_two_files(others, Command::Load { fabric: 1, plan: 2 })),
+        "gen" => Ok(gen_words(others)),
+        "demo" => Ok(demo_words(alloc, others)),
+        _ => Ok(None),
     }
 }
 
 /// The command that the words ask for, the program's own name left out. They are refused exactly where they
 /// are not in the grammar.
-pub fn read_words(_alloc: Global, words: &[String]) -> Result<Command, WordsFault>
+pub fn read_words(alloc: Global, words: &[String]) -> Result<Command, WordsFault>
     ensures { Gives wants_memory result (or_unknown (command_of (texts words.now))) }
 {
-    match command_of(words) {
-        Some(command) => Ok(command),
-        None => Err(WordsFault::Words),
+    match command_of(alloc, words) {
+        Ok(Some(command)) => Ok(command),
+        Ok(None) => Err(WordsFault::Words),
+        Err(refused) => Err(WordsFault::Memory(refused)),
     }
 }

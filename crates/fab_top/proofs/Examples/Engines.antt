@@ -3,7 +3,7 @@ use Rattle.std.proofs.Common.{◌≡◌, [], ◌∷◌, codes, refl}
 use Rattle.std.specs.Prelude.{None, Some}
 use Rattle.fab_report.specs.declared.recipe.Kind.TheVariants.{Tree}
 use Rattle.fab_top.specs.declared.command.Command.TheVariants.{Route, Demo}
-use Rattle.fab_top.specs.declared.command.Engine.TheVariants.{MinHop, Dor, Sssp}
+use Rattle.fab_top.specs.declared.command.Engine.TheVariants.{MinHop, Dor, Sssp, Updn}
 use Rattle.fab_top.specs.Words.{command_of}
 
 route_dor : command_of (codes "route" ∷ codes "dor" ∷ codes "F" ∷ []) ≡ Some (Route 2 Dor)
@@ -14,6 +14,21 @@ dor_takes_no_lanes = refl
 
 route_sssp : command_of (codes "route" ∷ codes "sssp" ∷ codes "F" ∷ []) ≡ Some (Route 2 Sssp)
 route_sssp = refl
+
+route_updn : command_of (codes "route" ∷ codes "updn" ∷ codes "F" ∷ []) ≡ Some (Route 2 (Updn []))
+route_updn = refl
+
+two_roots : command_of (codes "route" ∷ codes "updn" ∷ codes "F" ∷ codes "--root" ∷ codes "0x10" ∷ codes "--root" ∷ codes "0x0012" ∷ []) ≡ Some (Route 2 (Updn (16 ∷ 18 ∷ [])))
+two_roots = refl
+
+root_is_no_guid : command_of (codes "route" ∷ codes "updn" ∷ codes "F" ∷ codes "--root" ∷ codes "16" ∷ []) ≡ None
+root_is_no_guid = refl
+
+no_root : command_of (codes "route" ∷ codes "updn" ∷ codes "F" ∷ codes "--root" ∷ []) ≡ None
+no_root = refl
+
+updn_takes_no_lanes : command_of (codes "route" ∷ codes "updn" ∷ codes "F" ∷ codes "--lanes" ∷ codes "2" ∷ []) ≡ None
+updn_takes_no_lanes = refl
 
 no_such_engine : command_of (codes "route" ∷ codes "ftree" ∷ codes "F" ∷ []) ≡ None
 no_such_engine = refl
@@ -36,3 +51,6 @@ no_count = refl
 
 recipe_too_small : command_of (codes "demo" ∷ codes "ring" ∷ codes "2" ∷ codes "1" ∷ codes "0" ∷ codes "dor" ∷ codes "0" ∷ []) ≡ None
 recipe_too_small = refl
+
+demo_updn : command_of (codes "demo" ∷ codes "tree" ∷ codes "16" ∷ codes "8" ∷ codes "0" ∷ codes "updn" ∷ codes "0" ∷ []) ≡ Some (Demo (record { kind = Tree; a = 16; b = 8; seed = 0 }) (Updn []))
+demo_updn = refl

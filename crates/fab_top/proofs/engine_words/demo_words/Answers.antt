@@ -1,9 +1,10 @@
-use Rattle.std.proofs.Common.{arith}
+use Rattle.std.proofs.Common.{rules}
 use Rattle.fab_top.proofs.Wording.{no_demo}
 use Rattle.fab_top.proofs.engine_words.demo_words.Goals as goal
+use Rattle.fab_top.proofs.engine_words.demo_words.Goals.{in_default-via-then-others-lt6, in_default-via-else-others-lt6+else-others-lt7}
 
 pub returns-in_default : goal.returns-in_default
-returns-in_default c = no_demo c.args.others.now (λ e. omega (arith, e, c.in_default.len_below))
-
-pub returns-in_default-2 : goal.returns-in_default-2
-returns-in_default-2 c = no_demo c.args.others.now (λ e. omega (arith, e, c.in_default.len_at_least))
+returns-in_default c = elim c.in_default.branch [
+  | in_default-via-then-others-lt6 w ↦ no_demo c.args.others.now (λ e. search rules)
+  | in_default-via-else-others-lt6+else-others-lt7 w ↦ no_demo c.args.others.now (λ e. search rules)
+]

@@ -1,9 +1,10 @@
-use Rattle.std.proofs.Common.{arith}
+use Rattle.std.proofs.Common.{rules}
 use Rattle.fab_top.proofs.Wording.{no_recipe}
 use Rattle.fab_top.proofs.words.gen_words.Goals as goal
+use Rattle.fab_top.proofs.words.gen_words.Goals.{in_default-via-then-others-lt4, in_default-via-else-others-lt4+else-others-lt5}
 
 pub returns-in_default : goal.returns-in_default
-returns-in_default c = no_recipe c.args.others.now (λ e. omega (arith, e, c.in_default.len_below))
-
-pub returns-in_default-2 : goal.returns-in_default-2
-returns-in_default-2 c = no_recipe c.args.others.now (λ e. omega (arith, e, c.in_default.len_at_least))
+returns-in_default c = elim c.in_default.branch [
+  | in_default-via-then-others-lt4 w ↦ no_recipe c.args.others.now (λ e. search rules)
+  | in_default-via-else-others-lt4+else-others-lt5 w ↦ no_recipe c.args.others.now (λ e. search rules)
+]
