@@ -1,5 +1,5 @@
 -- Layers as a list: for each switch a row, in it the layer of the switch and each switch; 0 where they are no pair.
-use Rattle.std.specs.Prelude.{◌≡◌, ℕ, ◌<◌, List, slice_index_or}
+use Rattle.std.specs.Prelude.{ℕ, ◌<◌, List, slice_index_or}
 use Rattle.fab_model.specs.Topology.{Topology}
 use Rattle.fab_model.specs.Connected.{AreConnected}
 use Rattle.fab_tables.specs.Entries.{Entries, cell}

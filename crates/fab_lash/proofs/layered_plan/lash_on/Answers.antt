@@ -1,8 +1,6 @@
-use Rattle.std.proofs.Common.{◌≡◌, ℕ, length, List, sym, subst, arith}
-use Rattle.fab_depgraph.specs.Listed.{Dependencies}
+use Rattle.std.proofs.Common.{ℕ, length, List, sym, subst}
 use Rattle.fab_lash.specs.Layerings.{AreLayers}
 use Rattle.fab_lash.specs.PairLayers.{layer_at}
-use Rattle.fab_lash.specs.LayeredLanes.{AreLayeredLanes}
 use Rattle.fab_lash.proofs.LayeredPlans.{layers_below}
 use Rattle.fab_lash.proofs.LayerLevels.{are_layered_lanes}
 use Rattle.fab_lash.proofs.layered_plan.lash_on.Goals as goal

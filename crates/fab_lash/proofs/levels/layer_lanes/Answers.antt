@@ -1,8 +1,8 @@
-use Rattle.std.proofs.Common.{◌∙◌, length, slice_index_or, sym, subst, arith}
+use Rattle.std.proofs.Common.{◌∙◌, length, slice_index_or, arith}
 use Rattle.fab_model.specs.Topology.{lids_of}
 use Rattle.fab_model.proofs.LidsInUse.{as_many, lid_there}
 use Rattle.fab_lash.specs.Leveling.{layer_for}
-use Rattle.fab_lash.specs.PairLayers.{layer_at, AreBelow}
+use Rattle.fab_lash.specs.PairLayers.{layer_at}
 use Rattle.fab_lash.proofs.LayerLevels.{leveling_begins, one_lid_leveled, layers_are_levels}
 use Rattle.fab_lash.proofs.levels.layer_lanes.Goals as goal
 

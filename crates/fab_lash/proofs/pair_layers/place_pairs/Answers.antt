@@ -1,6 +1,4 @@
 use Rattle.std.proofs.Common.{◌≡◌, ℕ, ◌+◌, ◌++◌, ◌∷◌, [], List, length-append, ◌∙◌, length, sym, ap, subst, arith}
-use Rattle.fab_lash.specs.Layerings.{AreLayers}
-use Rattle.fab_lash.specs.Layered.{AreUsed}
 use Rattle.fab_lash.specs.PairLayers.{layer_at, HasNoLayers}
 use Rattle.fab_lash.proofs.LaneStates.{AreLayersBefore}
 use Rattle.fab_lash.proofs.PairAfterPair.{all_have_layers, all_are_used}

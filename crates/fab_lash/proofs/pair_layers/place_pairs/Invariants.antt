@@ -1,4 +1,4 @@
-use Rattle.std.proofs.Common.{◌≡◌, ℕ, length}
+use Rattle.std.proofs.Common.{◌≡◌, length}
 use Rattle.fab_tables.specs.Entries.{cell}
 use Rattle.fab_lash.specs.Placing.{channel_counts}
 use Rattle.fab_lash.specs.PairLayers.{layer_at}
