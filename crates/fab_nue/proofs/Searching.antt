@@ -7,6 +7,7 @@ pub mod Turning
 pub mod Measure
 pub mod Runs
 pub mod Listing
+pub mod Adding
 pub mod Choosing
 pub mod Ending
 pub mod SameSearch

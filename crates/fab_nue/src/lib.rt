@@ -1,6 +1,7 @@
 //! Nue routing: a guarded search on the channel dependency graph of each lane, with an escape tree to fall back on.
 #![tactic(auto)]
 
+mod adding;
 mod choices;
 mod laws;
 mod lid_list;
