@@ -6,8 +6,11 @@ mod choices;
 mod laws;
 mod lid_list;
 mod nue;
+mod offering;
 mod room;
 mod search;
+mod settled;
+mod settling;
 #[cfg(test)]
 mod tests;
 

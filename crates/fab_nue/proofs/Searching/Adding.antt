@@ -1,5 +1,5 @@
 -- Adding a tree's dependencies, switch by switch.
-use Rattle.std.proofs.Common.{◌≡◌, ℕ, zero, suc, ◌+◌, ◌<◌, ◌≤◌, List, ◌++◌, length, Some, Option, option_map, slice_get, sym, ◌∙◌, ap, subst, arith, append_assoc, length-append, None}
+use Rattle.std.proofs.Common.{◌≡◌, ℕ, zero, suc, ◌+◌, ◌<◌, ◌≤◌, List, ◌++◌, length, Some, Option, option_map, unwrap_or, slice_get, sym, ◌∙◌, ap, subst, arith, append_assoc, length-append, None}
 use Rattle.std.specs.Prelude.{flat_map, Contains, IsPermutation, take}
 use Rattle.std.specs.List.{range_with_len}
 use Rattle.std.proofs.lemmas.List.{append-nil}
@@ -17,7 +17,7 @@ use Rattle.fab_tables.specs.TreeWalks.{IsTree}
 use Rattle.fab_sssp.proofs.Raising.TreePassing.{tip_read}
 use Rattle.fab_depgraph.specs.declared.dep.Dep.{Dep}
 use Rattle.fab_depgraph.specs.Listed.{Dependencies, IsListed, dep_of}
-use Rattle.fab_nue.specs.Search.{ClosesNone}
+use Rattle.fab_nue.specs.Search.{ClosesNone, tail}
 use Rattle.fab_nue.specs.Added.{dep_behind, dep_made, deps_of_tree, AddsTree}
 use Rattle.fab_nue.proofs.Searching.Listing.{in_flat_map, made_depends, tree_listed, few, one_made, some_close, listed_closes_none}
 
@@ -122,3 +122,7 @@ taken_back old more now mark at is = ap (λ xs. take mark xs) is ∙ ap (λ k. t
 -- a switch for which no channel was read has none
 pub none_read : (tree : List (Option ℕ)) (s : ℕ) (o : Option ChannelId) → option_map (λ (e : ChannelId). e.0) o ≡ next tree s → o ≡ None → next tree s ≡ None
 none_read tree s o read is = sym read ∙ ap (λ p. option_map (λ (e : ChannelId). e.0) p) is
+
+-- the tail that was read of a channel
+pub tail_read : (t : Topology) (c : ℕ) (row : ChannelRow) → slice_get t.channels c ≡ Some row → tail t c ≡ row.tail.0
+tail_read t c row at = ap (λ o. unwrap_or (option_map (λ (r : ChannelRow). r.tail.0) o) 0) at
