@@ -8,6 +8,7 @@ pub mod Measure
 pub mod Runs
 pub mod Listing
 pub mod Adding
+pub mod Passing
 pub mod Choosing
 pub mod Ending
 pub mod SameSearch

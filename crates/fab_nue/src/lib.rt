@@ -7,6 +7,7 @@ mod laws;
 mod lid_list;
 mod nue;
 mod offering;
+mod passing;
 mod room;
 mod search;
 mod settled;
