@@ -9,6 +9,7 @@ pub mod Runs
 pub mod Listing
 pub mod Adding
 pub mod Passing
+pub mod Emptying
 pub mod Choosing
 pub mod Ending
 pub mod SameSearch
