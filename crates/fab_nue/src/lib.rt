@@ -14,6 +14,7 @@ mod settled;
 mod settling;
 #[cfg(test)]
 mod tests;
+mod weighing;
 
 pub use choices::{Choice, Choices};
 pub use laws::{

@@ -71,7 +71,7 @@ within_short : (t : Topology) (tree : List (Option ℕ)) (n s : ℕ) → length 
 within_short t tree zero s = omega arith
 within_short t tree (suc n) s = one_longer t (λ x. walk_within t tree n x) n (next tree s) (within_short t tree n)
 
-way_small : (t : Topology) (weight : ℕ → ℕ) (tree : List (Option ℕ)) (c : ℕ) → ((d : ℕ) → weight d ≤ weight_limit) → way_weight t weight tree c ≤ (length t.switches + 1) * weight_limit
+pub way_small : (t : Topology) (weight : ℕ → ℕ) (tree : List (Option ℕ)) (c : ℕ) → ((d : ℕ) → weight d ≤ weight_limit) → way_weight t weight tree c ≤ (length t.switches + 1) * weight_limit
 way_small t weight tree c each = omega (arith, each c, sum_small weight each (walk_of t tree (tip t c)), within_short t tree (length t.switches) (tip t c))
 
 module _ (t : Topology) (weight : ℕ → ℕ) (to : ℕ) (start now : Dependencies) (tree : List (Option ℕ)) (good : IsWellFormed t) (old mid : Held) (m : Choice) (loses : LosesLeast old mid m)
