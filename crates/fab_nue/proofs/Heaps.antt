@@ -2,3 +2,5 @@
 pub mod HeapOrder
 pub mod Counts
 pub mod Heaping
+pub mod Offering
+pub mod UnderWay

@@ -7,6 +7,9 @@ pub mod Turning
 pub mod Measure
 pub mod Runs
 pub mod Listing
+pub mod Adding
+pub mod Passing
+pub mod Emptying
 pub mod Choosing
 pub mod Ending
 pub mod SameSearch

@@ -3,6 +3,8 @@ pub mod Added
 pub mod Searching
 pub mod Choices
 pub mod Rooms
+pub mod Offers
+pub mod UnderWay
 pub mod Kept
 pub mod NuePlan
 pub mod Laws

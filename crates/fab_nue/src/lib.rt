@@ -1,14 +1,20 @@
 //! Nue routing: a guarded search on the channel dependency graph of each lane, with an escape tree to fall back on.
 #![tactic(auto)]
 
+mod adding;
 mod choices;
 mod laws;
 mod lid_list;
 mod nue;
+mod offering;
+mod passing;
 mod room;
 mod search;
+mod settled;
+mod settling;
 #[cfg(test)]
 mod tests;
+mod weighing;
 
 pub use choices::{Choice, Choices};
 pub use laws::{

@@ -24,7 +24,7 @@ use Rattle.fab_nue.proofs.Searching.Settling.{IsLeaf, gives_it, leaves_others}
 
 -- ---- elements
 
-in_flat_map : (f : ℕ → List Dep) (xs : List ℕ) (d : Dep) → Contains (flat_map f xs) d → (x : ℕ) × Contains (f x) d
+pub in_flat_map : (f : ℕ → List Dep) (xs : List ℕ) (d : Dep) → Contains (flat_map f xs) d → (x : ℕ) × Contains (f x) d
 in_flat_map f [] d c = absurd (omega (arith, c.1))
 in_flat_map f (x ∷ xs) d c = elim (Contains-append_cases (f x) (flat_map f xs) d c) [ inl here ↦ (x, here) | inr there ↦ in_flat_map f xs d there ]
 
@@ -41,7 +41,7 @@ the_only : (d e : Dep) → Contains (d ∷ []) e → d ≡ e
 the_only d e (zero, h, is) = is
 the_only d e (suc k, h, is) = absurd (omega (arith, h))
 
-made_depends : (t : Topology) (tree : List (Option ℕ)) (s a b : ℕ) → Contains (dep_made t tree (next tree s)) (dep_of a b) → DependsInTree t tree a b
+pub made_depends : (t : Topology) (tree : List (Option ℕ)) (s a b : ℕ) → Contains (dep_made t tree (next tree s)) (dep_of a b) → DependsInTree t tree a b
 made_depends t tree s a b c = on (next tree s) refl c
   where
     behind : (x : ℕ) → next tree s ≡ Some x → (p : Option ℕ) → next tree (tip t x) ≡ p → Contains (dep_behind x p) (dep_of a b) → DependsInTree t tree a b
@@ -108,7 +108,7 @@ some_close t used some tree each among closed none =
 
 -- ---- how many they are
 
-one_made : (t : Topology) (tree : List (Option ℕ)) (o : Option ℕ) → length (dep_made t tree o) ≤ 1
+pub one_made : (t : Topology) (tree : List (Option ℕ)) (o : Option ℕ) → length (dep_made t tree o) ≤ 1
 one_made t tree None = omega arith
 one_made t tree (Some c) = one_behind (next tree (tip t c))
   where
@@ -116,7 +116,7 @@ one_made t tree (Some c) = one_behind (next tree (tip t c))
     one_behind None = omega arith
     one_behind (Some d) = omega arith
 
-few : (f : ℕ → List Dep) → ((s : ℕ) → length (f s) ≤ 1) → (a n : ℕ) → length (flat_map f (range_with_len a n)) ≤ n
+pub few : (f : ℕ → List Dep) → ((s : ℕ) → length (f s) ≤ 1) → (a n : ℕ) → length (flat_map f (range_with_len a n)) ≤ n
 few f one a zero = omega arith
 few f one a (suc n) = omega (arith, length-append (f a) (flat_map f (range_with_len (a + 1) n)), one a, few f one (a + 1) n)
 
