@@ -1,8 +1,10 @@
--- A fabric has one Min Hop table and one DOR table: the entries of the smaller LIDs decide those of a LID.
-use Rattle.std.proofs.Common.{◌≡◌, ℕ, zero, suc, ◌<◌, ◌≤◌, ◌⊎◌, inl, inr, refl, sym, ◌∙◌, subst, arith}
+-- There is one balanced choice, and a fabric has one Min Hop table and one DOR table: the entries of the smaller LIDs decide those of a LID.
+use Rattle.std.proofs.Common.{◌≡◌, ℕ, zero, suc, ◌<◌, ◌≤◌, ◌⊎◌, inl, inr, refl, sym, ◌∙◌, subst, arith, Contains}
 use Rattle.std.proofs.Math.Path.{fun_ext}
+use Rattle.std.specs.Prelude.{slice_index}
 use Rattle.std.proofs.lemmas.Bool.{cases_eq}
 use Rattle.std.proofs.lemmas.Bool.Decides.{eqb_tells}
+use Rattle.std.proofs.lemmas.List.Elements.{All-contains}
 use Rattle.fab_graph.specs.Least.{IsNotAfter}
 use Rattle.fab_graph.proofs.Graphs.{one_least}
 use Rattle.fab_model.specs.Topology.{Topology}
@@ -11,7 +13,7 @@ use Rattle.fab_tables.specs.Entries.{Entries, entry}
 use Rattle.fab_tables.specs.FixedEntries.{HasFixedEntries, IsChosen}
 use Rattle.fab_balance.specs.Eligible.{LeadsNearer}
 use Rattle.fab_balance.specs.Loads.{port_load, IsBalancedChoice}
-use Rattle.fab_balance.specs.Laws.{OneMinHopTable, OneDorTable}
+use Rattle.fab_balance.specs.Laws.{OnePicked, OneBalancedChoice, OneMinHopTable, OneDorTable}
 use Rattle.fab_tables.proofs.Rows.SameTables.{entries_same}
 use Rattle.fab_balance.proofs.LoadCounts.{loads_same}
 
@@ -61,6 +63,14 @@ one_choice : (t : Topology) (e f : Entries) (s lid : ℕ) (Eligible : ℕ → Ty
 one_choice t e f s lid Eligible m n same x y =
     not_after_both (port_load t e s lid m) (port_load t e s lid n) m n (x.least n y.eligible)
     (let P : (ℕ → ℕ) → Type 0 = λ load. IsNotAfter load n m in subst P (sym (fun_ext same)) (y.least m x.eligible))
+
+pub one_balanced_choice : OneBalancedChoice
+one_balanced_choice t e s lid eligible port other x y = one_choice t e e s lid (λ p. Contains eligible p) port other (λ p. refl) x y
+
+pub one_picked : OnePicked
+one_picked loads eligible port other x y =
+    not_after_both (slice_index loads port) (slice_index loads other) port other (All-contains (IsNotAfter (λ p. slice_index loads p) port) eligible other x.least y.listed)
+    (All-contains (IsNotAfter (λ p. slice_index loads p) other) eligible port y.least x.listed)
 
 pub one_min_hop_table : OneMinHopTable
 one_min_hop_table t e f good x y =

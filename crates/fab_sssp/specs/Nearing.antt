@@ -1,5 +1,5 @@
 -- A search for distances under way: switches are settled one after the other, of those that are offered a distance the nearest first.
-use Rattle.std.specs.Prelude.{◌≡◌, ℕ, ◌+◌, ◌*◌, ◌<◌, ◌≤◌, ◌⊎◌, List, length, Option, None, Some, is_some, All, Contains, count_by, slice_index_or}
+use Rattle.std.specs.Prelude.{◌≡◌, ℕ, ◌+◌, ◌*◌, ◌<◌, ◌≤◌, ◌⊎◌, List, ◌∷◌, length, Option, None, Some, is_some, All, Contains, IsPermutation, count_by, slice_index_or, slice_set}
 use Rattle.std.specs.Ordering.{nat_cmp, ordering_then}
 use Rattle.std.specs.declared.cmp.Ordering.{Ordering}
 use Rattle.std.specs.declared.cmp.Reverse.{Reverse}
@@ -37,9 +37,20 @@ abbrev pub IsAttained : Topology → (ℕ → ℕ) → ℕ → List (Option ℕ)
 IsAttained t weight to found s n =
     ((s ≡ to) × (n ≡ 0)) ⊎ ((c m : ℕ) × LeavesSwitch t c s × IsFound found (tip t c) m × (n ≡ weight c + m) × (m < n))
 
--- the switch is settled at no more, or the number is offered to it
+-- the switch is settled at no more, or no more is offered to it
 abbrev pub IsReached : List (Option ℕ) → List Offer → ℕ → ℕ → Type 0
-IsReached found offers s n = ((m : ℕ) × IsFound found s m × (m ≤ n)) ⊎ Contains offers (offer_of n s)
+IsReached found offers s n = ((m : ℕ) × IsFound found s m × (m ≤ n)) ⊎ ((m : ℕ) × Contains offers (offer_of m s) × (m ≤ n))
+
+-- the numbers that are kept for some switches are offers or greater than these
+pub record AreReached (t : Topology) (found : List (Option ℕ)) (offers : List Offer) (least : List (Option ℕ)) : Type 0 where
+  pub each_switch : length least ≡ length t.switches
+  pub each : (s n : ℕ) → IsFound least s n → IsReached found offers s n
+
+-- a distance is offered to a switch: it was offered no more before, and nothing changes; or the offer stands, and is the least so far
+abbrev pub MakesOffer : ℕ → ℕ → List Offer → List (Option ℕ) → List Offer → List (Option ℕ) → Type 0
+MakesOffer n s offers least offers' least' =
+    ((m : ℕ) × IsFound least s m × (m ≤ n) × (offers' ≡ offers) × (least' ≡ least))
+    ⊎ (IsPermutation (offer_of n s ∷ offers) offers' × (least' ≡ slice_set least s (Some n)))
 
 -- The channels for which `IsOffered` holds have offered what they give by way of the settled switches.
 pub record IsNearing (t : Topology) (weight : ℕ → ℕ) (to : ℕ) (found : List (Option ℕ)) (offers : List Offer) (IsOffered : ℕ → Type 0) : Type 0 where

@@ -18,4 +18,4 @@ pub mod Pairs
 pub mod Plans
 pub mod Exists
 pub mod OnePlan
-pub mod Unnamed
+pub mod OneRoot

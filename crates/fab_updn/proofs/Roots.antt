@@ -24,6 +24,22 @@ use Rattle.fab_updn.proofs.Nearest.{IsNearestOf}
 abbrev pub numbers : List SwitchId → List ℕ
 numbers named = map (λ (root : SwitchId). root.0) named
 
+-- ---- roots of a component
+
+heads : (a b : ℕ) (xs ys : List ℕ) → a ∷ xs ≡ b ∷ ys → a ≡ b
+heads a b xs ys e = cc
+
+-- it has one centre
+pub one_centre : (t : Topology) (s a b : ℕ) → IsCentre t s a → IsCentre t s b → a ≡ b
+one_centre t s a b x y = heads a b x.0 y.0 (one_centre_order t s (a ∷ x.0) (b ∷ y.0) x.1 y.1)
+
+-- connected switches have the same roots
+pub root_of_other : (t : Topology) → IsWellFormed t → (named : List ℕ) (s u root : ℕ) → AreConnected t s u → IsRoot t named s root → IsRoot t named u root
+root_of_other t good named s u root joined (inl x) = inl (x.0, connected_through t u s root (connected_back t good s u joined) x.1)
+root_of_other t good named s u root joined (inr x) = inr (λ r is_named on. x.0 r is_named (connected_through t s u r joined on), (x.1.0, order_of_component t good s u (root ∷ x.1.0) joined x.1.1))
+
+-- ---- roots that are listed
+
 -- the named ones are listed, every other listed one is the centre of a component in which none is named, and each switch below this number has one of them in its component
 pub record AreRootsBelow (t : Topology) (named : List SwitchId) (count : ℕ) (roots : List SwitchId) : Type 0 where
   pub within : All (λ root. root.0 < length t.switches) roots
@@ -96,16 +112,10 @@ module _ (t : Topology) (good : IsWellFormed t) (h : HopTable) (hops : AreHops t
     right : (s : ℕ) (root : SwitchId) → s < length t.switches → Contains roots root → AreConnected t s root.0 → IsRoot t (numbers named) s root.0
     right s root low has joined = elim (done.others root has) [
       | inl is_named ↦ inl (image_has (λ (x : SwitchId). x.0) named root is_named, joined)
-      | inr centre ↦ inr (of_centre centre.0 centre.1 centre.2)
+      | inr centre ↦
+          (let there : AreConnected t centre.0 root.0 = (centre.2.1.component root.0).0 (0, omega arith, refl) in
+          root_of_other t good (numbers named) centre.0 s root.0 (connected_through t centre.0 root.0 s there (connected_back t good s root.0 joined)) (inr (centre.1, centre.2)))
     ]
-      where
-        of_centre : (u : ℕ) → NamesNone t (numbers named) u → IsCentre t u root.0 → NamesNone t (numbers named) s × IsCentre t s root.0
-        of_centre u none centre =
-            let there : AreConnected t u root.0 = (centre.1.component root.0).0 (0, omega arith, refl) in
-            let across : AreConnected t u s = connected_through t u root.0 s there (connected_back t good s root.0 joined) in (
-              λ r is_named on. none r is_named (connected_through t u s r across on),
-              (centre.0, order_of_component t good u s (root.0 ∷ centre.0) across centre.1),
-            )
 
     all : (s root : ℕ) → s < length t.switches → IsRoot t (numbers named) s root → (id : SwitchId) × Contains roots id × (id.0 ≡ root)
     all s root low (inl x) = let found : (id : SwitchId) × Contains named id × (id.0 ≡ root) = image_of (λ (x : SwitchId). x.0) named root x.0 in (found.0, done.has_named found.0 found.1, found.2)
@@ -114,12 +124,9 @@ module _ (t : Topology) (good : IsWellFormed t) (h : HopTable) (hops : AreHops t
         go : (id : SwitchId) × Contains roots id × AreConnected t s id.0 → (id : SwitchId) × Contains roots id × (id.0 ≡ root)
         go r = (r.0, r.1, same (right s r.0 low r.1 r.2))
           where
-            heads : (a b : ℕ) (xs ys : List ℕ) → a ∷ xs ≡ b ∷ ys → a ≡ b
-            heads a b xs ys e = cc
-
             same : IsRoot t (numbers named) s r.0.0 → r.0.0 ≡ root
             same (inl y) = absurd (x.0 r.0.0 y.0 r.2)
-            same (inr y) = heads r.0.0 root y.1.0 x.1.0 (one_centre_order t s (r.0.0 ∷ y.1.0) (root ∷ x.1.0) y.1.1 x.1.1)
+            same (inr y) = one_centre t s r.0.0 root y.1 x.1
 
     pub are_roots : AreRoots t (numbers named) roots
     are_roots = record { within = done.within; right = right; some = done.some; all = all }

@@ -10,7 +10,7 @@ use Rattle.fab_tables.specs.Entries.{Entries}
 use Rattle.fab_tables.specs.Route.{route}
 use Rattle.fab_tables.specs.VirtualChannels.{Follow}
 use Rattle.fab_tables.specs.Certified.{Reaches}
-use Rattle.fab_updn.specs.Ranks.{IsRank, AreRanks, GoesUp, GoesDown}
+use Rattle.fab_updn.specs.Ranks.{HasOneRoot, IsRank, AreRanks, GoesUp, GoesDown}
 use Rattle.fab_updn.specs.UpDown.{AreUpDownTables}
 use Rattle.fab_updn.specs.UpDownPlans.{IsUpDownPlan, IsRefusedPair}
 
@@ -56,6 +56,10 @@ abbrev pub PlanOrRefusalExists : Type 0
 PlanOrRefusalExists = (t : Topology) (named : List ℕ) → IsFabric t → All (λ root. root < length t.switches) named →
     ((p : Plan) × IsUpDownPlan t named p) ⊎ ((from to : ℕ) × IsRefusedPair t named from to)
 
--- where no root is named, no pair is refused
+-- in a component with one root, named or its centre, no pair is refused; so where each component has one, no pair is
+abbrev pub OneRootNeverRefused : Type 0
+OneRootNeverRefused = (t : Topology) (named : List ℕ) (from to : ℕ) → IsWellFormed t → HasOneRoot t named from → ¬ IsRefusedPair t named from to
+
+-- and where no root is named, each component has one
 abbrev pub UnnamedNeverRefused : Type 0
 UnnamedNeverRefused = (t : Topology) (from to : ℕ) → IsWellFormed t → ¬ IsRefusedPair t [] from to

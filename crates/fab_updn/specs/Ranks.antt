@@ -15,6 +15,10 @@ NamesNone t named s = (root : ℕ) → Contains named root → ¬ AreConnected t
 abbrev pub IsRoot : Topology → List ℕ → ℕ → ℕ → Type 0
 IsRoot t named s root = (Contains named root × AreConnected t s root) ⊎ (NamesNone t named s × IsCentre t s root)
 
+-- the component of s has no second root
+abbrev pub HasOneRoot : Topology → List ℕ → ℕ → Type 0
+HasOneRoot t named s = (root other : ℕ) → IsRoot t named s root → IsRoot t named s other → root ≡ other
+
 -- the hop count to a root of its component
 abbrev pub IsAtRoot : Topology → List ℕ → ℕ → ℕ → Type 0
 IsAtRoot t named s n = (root : ℕ) × IsRoot t named s root × IsHopCount t s root n

@@ -1,5 +1,5 @@
 //! Laws of up/down routing. Each function is empty; what it ensures is the law.
-ghost use Rattle.fab_updn.specs.Laws.{OneRank, OneListOfRanks, UpDownReaches, NoDownThenUp, LegalTurnsAreAcyclic, OneRefusedPair, PlanOrRefusal, OneUpDownPlan, PlanOrRefusalExists, UnnamedNeverRefused};
+ghost use Rattle.fab_updn.specs.Laws.{OneRank, OneListOfRanks, UpDownReaches, NoDownThenUp, LegalTurnsAreAcyclic, OneRefusedPair, PlanOrRefusal, OneUpDownPlan, PlanOrRefusalExists, OneRootNeverRefused, UnnamedNeverRefused};
 
 /// A switch has one rank at most.
 pub fn one_rank()
@@ -44,6 +44,11 @@ pub fn one_up_down_plan()
 /// A fabric with named roots has a plan or a refused pair.
 pub fn plan_or_refusal_exists()
     ensures { PlanOrRefusalExists }
+{}
+
+/// In a component with one root, named or its centre, no pair is refused.
+pub fn one_root_never_refused()
+    ensures { OneRootNeverRefused }
 {}
 
 /// Where no root is named, no pair is refused.

@@ -4,7 +4,7 @@ use Rattle.std.specs.Ordering.{nat_cmp, is_lt, ordering_then}
 use Rattle.std.specs.declared.cmp.Ordering.{Ordering}
 use Rattle.std.specs.declared.cmp.Ordering.TheVariants.{Less, Equal, Greater}
 use Rattle.std.specs.BinaryHeap.{IsUpperBound}
-use Rattle.std.specs.Prelude.{◌==◌, nat_lt, All, Contains, IfSome, count_by, IsPermutation, slice_index_or}
+use Rattle.std.specs.Prelude.{◌==◌, nat_lt, All, Contains, IfSome, IsSomeAnd, count_by, IsPermutation, slice_index_or}
 use Rattle.std.proofs.lemmas.Bool.{cases_eq, cases_lt, false≢true, ltb-false}
 use Rattle.std.proofs.lemmas.List.{length-replicate, get_or-replicate, get_or_past}
 use Rattle.std.proofs.lemmas.List.Elements.{All-from_recursion, All-cons, All-nil, All-tail, All-contains, All-weaker}
@@ -21,7 +21,7 @@ use Rattle.fab_tables.specs.Trees.{LeavesSwitch}
 use Rattle.fab_tables.proofs.Joined.Leaving.{leaves_from, stands_between}
 use Rattle.fab_tables.proofs.Joined.Walks.{reverse_there}
 use Rattle.fab_tables.proofs.Joined.Tips.{tip_below}
-use Rattle.fab_sssp.specs.Nearing.{Offer, offer_of, offered_distance, offered_switch, nearest_last, weight_limit, IsFound, IsAttained, IsReached, IsNearing, IsAnyChannel, LeadsElsewhere, LeadsElsewhereOrBefore}
+use Rattle.fab_sssp.specs.Nearing.{Offer, offer_of, offered_distance, offered_switch, nearest_last, weight_limit, IsFound, IsAttained, IsReached, AreReached, MakesOffer, IsNearing, IsAnyChannel, LeadsElsewhere, LeadsElsewhereOrBefore}
 use Rattle.fab_sssp.proofs.Walks.Settled.{AreSettled}
 
 -- the top of the heap is nearest
@@ -55,6 +55,21 @@ pub is_open : (o : Option ℕ) → is_some o ≡ false → o ≡ None
 is_open None h = refl
 is_open (Some n) h = absurd (false≢true (sym h))
 
+-- a greater number is reached as well
+reached_later : (found : List (Option ℕ)) (offers : List Offer) (s m n : ℕ) → m ≤ n → IsReached found offers s m → IsReached found offers s n
+reached_later found offers s m n h (inl at) = inl (at.0, at.1, omega (arith, at.2, h))
+reached_later found offers s m n h (inr has) = inr (has.0, has.1, omega (arith, has.2, h))
+
+-- what is kept stays reached as long as all that was reached is
+with_reached : (t : Topology) (found grown : List (Option ℕ)) (offers others : List Offer) (least : List (Option ℕ)) → ((s n : ℕ) → IsReached found offers s n → IsReached grown others s n) →
+    AreReached t found offers least → AreReached t grown others least
+with_reached t found grown offers others least more are = record { each_switch = are.each_switch; each = λ s n at. more s n (are.each s n at) }
+
+-- what the code learns of what was offered
+pub offered_before : (o : Option ℕ) (n : ℕ) → IsSomeAnd o (λ m. m ≤ n) → (m : ℕ) × (o ≡ Some m) × (m ≤ n)
+offered_before None n h = absurd h
+offered_before (Some m) n h = (m, refl, h)
+
 -- ---- the search begins
 
 module _ (t : Topology) (weight : ℕ → ℕ) (to : ℕ) (low : to < length t.switches) (offers : List Offer) (pushed : IsPermutation (offer_of 0 to ∷ []) offers) where
@@ -82,9 +97,12 @@ module _ (t : Topology) (weight : ℕ → ℕ) (to : ℕ) (low : to < length t.s
     farther = λ s n found. absurd (nothing_found s n found);
     attained = λ s n found. absurd (nothing_found s n found);
     backed = λ s n has. let e : offer_of 0 to ≡ offer_of n s = only_offer (offer_of n s) has in inl (sym (ap offered_switch e), sym (ap offered_distance e));
-    begun = inr (Contains-permutation (offer_of 0 to ∷ []) offers (offer_of 0 to) pushed (contains_first (offer_of 0 to) []));
+    begun = inr (0, Contains-permutation (offer_of 0 to ∷ []) offers (offer_of 0 to) pushed (contains_first (offer_of 0 to) []), omega arith);
     relaxed = λ s c m any leaves found. absurd (nothing_found (tip t c) m found);
   }
+
+  pub nothing_kept : AreReached t none_found offers none_found
+  nothing_kept = record { each_switch = length-replicate (length t.switches) None; each = λ s n at. absurd (nothing_found s n at) }
 
 -- ---- the nearest offer is taken
 
@@ -115,27 +133,30 @@ module _ (t : Topology) (weight : ℕ → ℕ) (to : ℕ) (found : List (Option 
   taken_low = of_taken (λ o. offered_switch o < length t.switches) near.low
 
   -- its switch is settled already
-  pub passed_over : (m : ℕ) → IsFound found y m → IsNearing t weight to found rest IsAnyChannel
-  passed_over m is = record {
-    each_switch = near.each_switch;
-    low = all_left (λ o. offered_switch o < length t.switches) near.low;
-    small = all_left (λ o. offered_distance o ≤ count_by is_some found * weight_limit) near.small;
-    farther = λ s n at. all_left (λ o. n ≤ offered_distance o) (near.farther s n at);
-    attained = near.attained;
-    backed = λ s n has. near.backed s n (still (offer_of n s) has);
-    begun = reached to 0 near.begun;
-    relaxed = λ s c k any leaves at. reached s (weight c + k) (near.relaxed s c k any leaves at);
-  }
-    where
-      nearer : m ≤ distance
-      nearer = of_taken (λ o. m ≤ offered_distance o) (near.farther y m is)
+  module _ (m : ℕ) (is : IsFound found y m) where
+    reached_without : (s n : ℕ) → IsReached found offers s n → IsReached found rest s n
+    reached_without s n (inl at) = inl at
+    reached_without s n (inr has) = elim (this_or_left (offer_of has.0 s) has.1) [
+      | inl e ↦
+          (let nearer : m ≤ distance = of_taken (λ o. m ≤ offered_distance o) (near.farther y m is) in
+          inl (m, subst (λ x. IsFound found x m) (ap offered_switch e) is, omega (arith, nearer, ap offered_distance e, has.2)))
+      | inr left ↦ inr (has.0, left, has.2)
+    ]
 
-      reached : (s n : ℕ) → IsReached found offers s n → IsReached found rest s n
-      reached s n (inl at) = inl at
-      reached s n (inr has) = elim (this_or_left (offer_of n s) has) [
-        | inl e ↦ inl (m, subst (λ x. IsFound found x m) (ap offered_switch e) is, omega (arith, nearer, ap offered_distance e))
-        | inr left ↦ inr left
-      ]
+    pub passed_over : IsNearing t weight to found rest IsAnyChannel
+    passed_over = record {
+      each_switch = near.each_switch;
+      low = all_left (λ o. offered_switch o < length t.switches) near.low;
+      small = all_left (λ o. offered_distance o ≤ count_by is_some found * weight_limit) near.small;
+      farther = λ s n at. all_left (λ o. n ≤ offered_distance o) (near.farther s n at);
+      attained = near.attained;
+      backed = λ s n has. near.backed s n (still (offer_of n s) has);
+      begun = reached_without to 0 near.begun;
+      relaxed = λ s c k any leaves at. reached_without s (weight c + k) (near.relaxed s c k any leaves at);
+    }
+
+    pub kept_without : (least : List (Option ℕ)) → AreReached t found offers least → AreReached t found rest least
+    kept_without least are = with_reached t found found offers rest least reached_without are
 
   -- it settles the switch
   module _ (least : All (λ o. distance ≤ offered_distance o) rest) (none : slice_index_or found y None ≡ None) where
@@ -166,10 +187,13 @@ module _ (t : Topology) (weight : ℕ → ℕ) (to : ℕ) (found : List (Option 
 
     reached_still : (s n : ℕ) → IsReached found offers s n → IsReached grown rest s n
     reached_still s n (inl at) = inl (at.0, found_still s at.0 at.1, at.2)
-    reached_still s n (inr has) = elim (this_or_left (offer_of n s) has) [
-      | inl e ↦ inl (distance, subst (λ x. IsFound grown x distance) (ap offered_switch e) settled_here, omega (arith, ap offered_distance e))
-      | inr left ↦ inr left
+    reached_still s n (inr has) = elim (this_or_left (offer_of has.0 s) has.1) [
+      | inl e ↦ inl (distance, subst (λ x. IsFound grown x distance) (ap offered_switch e) settled_here, omega (arith, ap offered_distance e, has.2))
+      | inr left ↦ inr (has.0, left, has.2)
     ]
+
+    pub kept_still : (least : List (Option ℕ)) → AreReached t found offers least → AreReached t grown rest least
+    kept_still least are = with_reached t found grown offers rest least reached_still are
 
     pub settles : IsNearing t weight to grown rest (LeadsElsewhere t y)
     settles = record {
@@ -209,11 +233,11 @@ search_ends t weight to found offers near none = record {
   where
     at_to : IsReached found offers to 0 → IsFound found to 0
     at_to (inl at) = subst (λ m. IsFound found to m) (omega (arith, at.2)) at.1
-    at_to (inr has) = absurd (omega (arith, has.1, none))
+    at_to (inr has) = absurd (omega (arith, has.1.1, none))
 
     relaxed : (s k : ℕ) → IsReached found offers s k → (n : ℕ) × IsFound found s n × (n ≤ k)
     relaxed s k (inl at) = at
-    relaxed s k (inr has) = absurd (omega (arith, has.1, none))
+    relaxed s k (inr has) = absurd (omega (arith, has.1.1, none))
 
 -- ---- a settled switch offers to those behind it
 
@@ -306,40 +330,70 @@ module _ (t : Topology) (good : IsWellFormed t) (weight : ℕ → ℕ) (to : ℕ
         (relaxed_more offers near.relaxed (λ c is. inl (n, at, omega (arith, farthest x.0 n at)))) near
 
     -- its tail is offered what comes by way of the settled switch
-    module _ (c w : ℕ) (reverse : IsReverse t l c) (weighs : weight c ≡ w) (positive : 0 < w) (few : w ≤ weight_limit) (small : distance + weight_limit ≤ count_by is_some found * weight_limit)
-        (old new : List Offer) (pushed : IsPermutation (offer_of (w + distance) x.0 ∷ old) new) where
+    module _ (c w : ℕ) (reverse : IsReverse t l c) (weighs : weight c ≡ w) (positive : 0 < w) (few : w ≤ weight_limit) (small : distance + weight_limit ≤ count_by is_some found * weight_limit) where
       abbrev more : Offer
       more = offer_of (w + distance) x.0
 
-      this_or_old : (o : Offer) → Contains new o → (more ≡ o) ⊎ Contains old o
-      this_or_old o has = first_or_later more o old (Contains-permutation new (more ∷ old) o (IsPermutation-sym (more ∷ old) new pushed) has)
+      -- then the channel has offered
+      reached_by : (offers : List Offer) → IsReached found offers x.0 (w + distance) → (d : ℕ) → IsReverse t l d → IsReached found offers x.0 (weight d + distance)
+      reached_by offers reached d is =
+          let same : c ≡ d = channel_once t good c d (reversed row) (reverse_row c reverse) (reverse_row d is) in
+          subst (λ k. IsReached found offers x.0 (k + distance)) (sym weighs ∙ ap weight same) reached
 
-      all_more : (P : Offer → Type 0) → P more → All P old → All P new
-      all_more P here all = All-permutation P (more ∷ old) new pushed (All-cons P more old here all)
+      -- no more was offered before
+      passes : (offers : List Offer) → IsReached found offers x.0 (w + distance) → IsNearing t weight to found offers (LeadsElsewhereOrBefore t y l) → IsNearing t weight to found offers (LeadsElsewhereOrBefore t y (l + 1))
+      passes offers reached near = with_offered offers (LeadsElsewhereOrBefore t y l) (LeadsElsewhereOrBefore t y (l + 1)) (relaxed_more offers near.relaxed (reached_by offers reached)) near
 
-      reached_more : (s n : ℕ) → IsReached found old s n → IsReached found new s n
-      reached_more s n (inl at) = inl at
-      reached_more s n (inr has) = inr (Contains-permutation (more ∷ old) new (offer_of n s) pushed (contains_later more (offer_of n s) old has))
+      -- the offer stands
+      module _ (old new : List Offer) (pushed : IsPermutation (more ∷ old) new) where
+        this_or_old : (o : Offer) → Contains new o → (more ≡ o) ⊎ Contains old o
+        this_or_old o has = first_or_later more o old (Contains-permutation new (more ∷ old) o (IsPermutation-sym (more ∷ old) new pushed) has)
 
-      attained_here : IsAttained t weight to found x.0 (w + distance)
-      attained_here = inr (c, distance, reverse_leaves c reverse, subst (λ k. IsFound found k distance) (sym (reverse_leads c reverse)) settled, ap (λ k. k + distance) (sym weighs), omega (arith, positive))
+        all_more : (P : Offer → Type 0) → P more → All P old → All P new
+        all_more P here all = All-permutation P (more ∷ old) new pushed (All-cons P more old here all)
 
-      pub offers_more : IsNearing t weight to found old (LeadsElsewhereOrBefore t y l) → IsNearing t weight to found new (LeadsElsewhereOrBefore t y (l + 1))
-      offers_more near = record {
-        each_switch = near.each_switch;
-        low = all_more (λ o. offered_switch o < length t.switches) behind_low near.low;
-        small = all_more (λ o. offered_distance o ≤ count_by is_some found * weight_limit) (omega (arith, small, few)) near.small;
-        farther = λ s n at. all_more (λ o. n ≤ offered_distance o) (omega (arith, farthest s n at)) (near.farther s n at);
-        attained = near.attained;
-        backed = λ s n has. elim (this_or_old (offer_of n s) has) [
-          | inl e ↦ subst (λ k. IsAttained t weight to found k n) (ap offered_switch e) (subst (λ k. IsAttained t weight to found x.0 k) (ap offered_distance e) attained_here)
-          | inr before ↦ near.backed s n before
-        ];
-        begun = reached_more to 0 near.begun;
-        relaxed = relaxed_more new (λ s d m yet leaves at. reached_more s (weight d + m) (near.relaxed s d m yet leaves at)) here;
-      }
-        where
-          here : (d : ℕ) → IsReverse t l d → IsReached found new x.0 (weight d + distance)
-          here d is =
-              let same : c ≡ d = channel_once t good c d (reversed row) (reverse_row c reverse) (reverse_row d is) in
-              inr (subst (λ k. Contains new (offer_of (k + distance) x.0)) (sym weighs ∙ ap weight same) (Contains-permutation (more ∷ old) new more pushed (contains_first more old)))
+        reached_more : (s n : ℕ) → IsReached found old s n → IsReached found new s n
+        reached_more s n (inl at) = inl at
+        reached_more s n (inr has) = inr (has.0, Contains-permutation (more ∷ old) new (offer_of has.0 s) pushed (contains_later more (offer_of has.0 s) old has.1), has.2)
+
+        reached_here : IsReached found new x.0 (w + distance)
+        reached_here = inr (w + distance, Contains-permutation (more ∷ old) new more pushed (contains_first more old), omega arith)
+
+        attained_here : IsAttained t weight to found x.0 (w + distance)
+        attained_here = inr (c, distance, reverse_leaves c reverse, subst (λ k. IsFound found k distance) (sym (reverse_leads c reverse)) settled, ap (λ k. k + distance) (sym weighs), omega (arith, positive))
+
+        stands : IsNearing t weight to found old (LeadsElsewhereOrBefore t y l) → IsNearing t weight to found new (LeadsElsewhereOrBefore t y (l + 1))
+        stands near = record {
+          each_switch = near.each_switch;
+          low = all_more (λ o. offered_switch o < length t.switches) behind_low near.low;
+          small = all_more (λ o. offered_distance o ≤ count_by is_some found * weight_limit) (omega (arith, small, few)) near.small;
+          farther = λ s n at. all_more (λ o. n ≤ offered_distance o) (omega (arith, farthest s n at)) (near.farther s n at);
+          attained = near.attained;
+          backed = λ s n has. elim (this_or_old (offer_of n s) has) [
+            | inl e ↦ subst (λ k. IsAttained t weight to found k n) (ap offered_switch e) (subst (λ k. IsAttained t weight to found x.0 k) (ap offered_distance e) attained_here)
+            | inr before ↦ near.backed s n before
+          ];
+          begun = reached_more to 0 near.begun;
+          relaxed = relaxed_more new (λ s d m yet leaves at. reached_more s (weight d + m) (near.relaxed s d m yet leaves at)) (reached_by new reached_here);
+        }
+
+        kept_more : (least : List (Option ℕ)) → AreReached t found old least → AreReached t found new (set least x.0 (Some (w + distance)))
+        kept_more least are = record { each_switch = length-set least x.0 (Some (w + distance)) ∙ are.each_switch; each = λ s n at. each s n at (cases_eq s x.0) }
+          where
+            each : (s n : ℕ) → IsFound (set least x.0 (Some (w + distance))) s n → (s ≡ x.0) ⊎ (s ≢ x.0) → IsReached found new s n
+            each s n at (inl same) =
+                let here : IsFound (set least x.0 (Some (w + distance))) x.0 n = subst (λ k. IsFound (set least x.0 (Some (w + distance))) k n) same at in
+                let number : w + distance ≡ n = same_Some (w + distance) n (sym (get_or-set_same least x.0 (Some (w + distance)) None (omega (arith, behind_low, are.each_switch))) ∙ here) in
+                subst (λ k. IsReached found new k n) (sym same) (subst (λ k. IsReached found new x.0 k) number reached_here)
+            each s n at (inr other) = reached_more s n (are.each s n (sym (get_or-set_other least x.0 s (Some (w + distance)) None other) ∙ at))
+
+      module _ (old new : List Offer) (least grown : List (Option ℕ)) (are : AreReached t found old least) where
+        pub offers_more : MakesOffer (w + distance) x.0 old least new grown → IsNearing t weight to found old (LeadsElsewhereOrBefore t y l) → IsNearing t weight to found new (LeadsElsewhereOrBefore t y (l + 1))
+        offers_more (inl before) near =
+            let reached : IsReached found old x.0 (w + distance) = reached_later found old x.0 before.0 (w + distance) before.2 (are.each x.0 before.0 before.1) in
+            subst (λ os. IsNearing t weight to found os (LeadsElsewhereOrBefore t y (l + 1))) (sym before.3) (passes old reached near)
+        offers_more (inr made) near = stands old new made.0 near
+
+        pub keeps_more : MakesOffer (w + distance) x.0 old least new grown → AreReached t found new grown
+        keeps_more (inl before) = subst (λ os. AreReached t found os grown) (sym before.3) (subst (λ ls. AreReached t found old ls) (sym before.4) are)
+        keeps_more (inr made) = subst (λ ls. AreReached t found new ls) (sym made.1) (kept_more old new made.0 least are)

@@ -1,5 +1,5 @@
--- Where no root is named, no pair is refused: each switch leads up to the one root of its component, and back down from it.
-use Rattle.std.proofs.Common.{◌≡◌, ℕ, zero, suc, ◌+◌, ◌<◌, ◌≤◌, inl, inr, List, [], ◌∷◌, length, refl, sym, ◌∙◌, subst, arith, Contains, Option, Some, None}
+-- In a component with one root no pair is refused: each switch leads up to the root, and back down from it.
+use Rattle.std.proofs.Common.{◌≡◌, ℕ, zero, suc, ◌+◌, ◌<◌, ◌≤◌, inl, inr, List, [], length, refl, sym, ◌∙◌, subst, arith, Contains, Option, Some, None}
 use Rattle.std.specs.Prelude.{slice_index}
 use Rattle.std.proofs.lemmas.Bool.{cases_lt}
 use Rattle.std.proofs.lemmas.List.Elements.{All-contains}
@@ -13,14 +13,13 @@ use Rattle.fab_model.specs.Connected.{LeadsTo, AreConnected}
 use Rattle.fab_model.specs.WellFormed.{IsWellFormed}
 use Rattle.fab_tables.proofs.Joined.Walks.{connected_back, connected_through}
 use Rattle.fab_hops.specs.HopCounts.{IsHopCount}
-use Rattle.fab_hops.specs.Centres.{IsCentre}
-use Rattle.fab_hops.proofs.CentreOrders.{one_centre_order, order_of_component}
 use Rattle.fab_hops.proofs.HopLaws.{one_hop_count}
 use Rattle.fab_hops.proofs.HopWalks.{connected_have_count, connected_within, leads_nearer, leads_back}
-use Rattle.fab_updn.specs.Ranks.{IsRoot, IsAtRoot, AreRanks, HasSmallerKey, GoesDown, StepsUp, StepsDown}
+use Rattle.fab_updn.specs.Ranks.{IsRoot, HasOneRoot, IsAtRoot, AreRanks, HasSmallerKey, GoesDown, StepsUp, StepsDown}
 use Rattle.fab_updn.specs.Costs.{LeadsDown, IsCostAbove, AreCosts}
 use Rattle.fab_updn.specs.UpDownPlans.{LacksRoute}
-use Rattle.fab_updn.specs.Laws.{UnnamedNeverRefused}
+use Rattle.fab_updn.specs.Laws.{OneRootNeverRefused, UnnamedNeverRefused}
+use Rattle.fab_updn.proofs.Roots.{one_centre, root_of_other}
 use Rattle.fab_updn.proofs.Sequences.{key-trans, key-self}
 use Rattle.fab_updn.proofs.Turns.{one_rank}
 
@@ -71,48 +70,39 @@ module _ (t : Topology) (good : IsWellFormed t) (ranks : List ℕ) where
 
 -- ---- the one root
 
-module _ (t : Topology) (good : IsWellFormed t) (ranks : List ℕ) (are : AreRanks t [] ranks) where
-  heads : (a b : ℕ) (xs ys : List ℕ) → a ∷ xs ≡ b ∷ ys → a ≡ b
-  heads a b xs ys e = cc
+module _ (t : Topology) (good : IsWellFormed t) (named ranks : List ℕ) (are : AreRanks t named ranks) where
+  -- connected switches share it
+  one_of_other : (s u : ℕ) → AreConnected t s u → HasOneRoot t named s → HasOneRoot t named u
+  one_of_other s u joined one a b x y =
+      let back : AreConnected t u s = connected_back t good s u joined in
+      one a b (root_of_other t good named u s a back x) (root_of_other t good named u s b back y)
 
-  one_centre : (s a b : ℕ) → IsCentre t s a → IsCentre t s b → a ≡ b
-  one_centre s a b x y = heads a b x.0 y.0 (one_centre_order t s (a ∷ x.0) (b ∷ y.0) x.1 y.1)
-
-  centre_of_other : (s u centre : ℕ) → AreConnected t s u → IsCentre t s centre → IsCentre t u centre
-  centre_of_other s u centre joined x = (x.0, order_of_component t good s u (centre ∷ x.0) joined x.1)
-
-  no_name : {root : ℕ} → ¬ Contains [] root
-  no_name has = omega (arith, has.1)
-
-  is_centre : (s root : ℕ) → IsRoot t [] s root → IsCentre t s root
-  is_centre s root (inl named) = absurd (no_name named.0)
-  is_centre s root (inr x) = x.1
-
-  rank_is : (s root n : ℕ) → s < length t.switches → IsCentre t s root → IsHopCount t s root n → slice_index ranks s ≡ n
-  rank_is s root n low centre count = one_rank t [] s (slice_index ranks s) n (are.each s low) (record { holds = (root, inr (λ r named joined. no_name named, centre), count); least = λ m x. least m x })
+  rank_is : (s root n : ℕ) → s < length t.switches → HasOneRoot t named s → IsRoot t named s root → IsHopCount t s root n → slice_index ranks s ≡ n
+  rank_is s root n low one is count = one_rank t named s (slice_index ranks s) n (are.each s low) (record { holds = (root, is, count); least = λ m x. least m x })
     where
-      least : (m : ℕ) → IsAtRoot t [] s m → n ≤ m
+      least : (m : ℕ) → IsAtRoot t named s m → n ≤ m
       least m x =
-          let same : x.0 ≡ root = one_centre s x.0 root (is_centre s x.0 x.1) centre in
+          let same : x.0 ≡ root = one x.0 root x.1 is in
           omega (arith, one_hop_count t s root n m count (subst (λ r. IsHopCount t s r m) same x.2))
 
   -- a switch leads up to it
-  walk_up : (n s root : ℕ) → s < length t.switches → IsCentre t s root → IsHopCount t s root n → Walk (StepsUp t ranks) n s root
-  walk_up zero s root low centre count = count.holds
-  walk_up (suc n) s root low centre count =
+  walk_up : (n s root : ℕ) → s < length t.switches → HasOneRoot t named s → IsRoot t named s root → IsHopCount t s root n → Walk (StepsUp t ranks) n s root
+  walk_up zero s root low one is count = count.holds
+  walk_up (suc n) s root low one is count =
       let found : (next : ℕ) × LeadsTo t s next × IsHopCount t next root n = leads_nearer t s root n count in
       let next : ℕ = found.0 in
       let joined : AreConnected t s next = (1, (next, found.1, refl)) in
       let high : next < length t.switches = connected_within t good s next joined low in
-      let there : IsCentre t next root = centre_of_other s next root joined centre in
-      let less : slice_index ranks next < slice_index ranks s = omega (arith, rank_is s root (suc n) low centre count, rank_is next root n high there found.2) in
+      let alone : HasOneRoot t named next = one_of_other s next joined one in
+      let there : IsRoot t named next root = root_of_other t good named s next root joined is in
+      let less : slice_index ranks next < slice_index ranks s = omega (arith, rank_is s root (suc n) low one is count, rank_is next root n high alone there found.2) in
       let up : HasSmallerKey ranks next s = inl less in
       let row : ChannelRow = found.1.0 in
-      (next, (row, found.1.1, found.1.2, found.1.3, subst (λ x. HasSmallerKey ranks x row.tail.0) (sym found.1.3) (subst (λ x. HasSmallerKey ranks next x) (sym found.1.2) up)), walk_up n next root high there found.2)
+      (next, (row, found.1.1, found.1.2, found.1.3, subst (λ x. HasSmallerKey ranks x row.tail.0) (sym found.1.3) (subst (λ x. HasSmallerKey ranks next x) (sym found.1.2) up)), walk_up n next root high alone there found.2)
 
   -- ---- no pair lacks a route
 
-  module _ (from to : ℕ) (x : LacksRoute t ranks from to) where
+  module _ (from to : ℕ) (one : HasOneRoot t named from) (x : LacksRoute t ranks from to) where
     from_low : from < length t.switches
     from_low = by_walk x.0.0 x.0.1
       where
@@ -120,26 +110,37 @@ module _ (t : Topology) (good : IsWellFormed t) (ranks : List ℕ) (are : AreRan
         by_walk zero same = absurd (no_down t ranks to x.1.0 x.1.1 from x.1.2 (0, same))
         by_walk (suc n) w = subst (λ y. y < length t.switches) w.1.2 (All-contains (λ (r : ChannelRow). r.tail.0 < length t.switches) t.channels w.1.0 good.channel_tails w.1.1)
 
-    at_root : IsAtRoot t [] from (slice_index ranks from)
+    at_root : IsAtRoot t named from (slice_index ranks from)
     at_root = (are.each from from_low).holds
 
     abbrev root : ℕ
     root = at_root.0
 
-    centre : IsCentre t from root
-    centre = is_centre from root at_root.1
-
     none_at_root : x.1.0 root ≡ None
-    none_at_root = none_on t ranks to x.1.0 x.1.1 (slice_index ranks from) from root x.1.2 (walk_up (slice_index ranks from) from root from_low centre at_root.2)
+    none_at_root = none_on t ranks to x.1.0 x.1.1 (slice_index ranks from) from root x.1.2 (walk_up (slice_index ranks from) from root from_low one at_root.1 at_root.2)
 
     down_from_root : LeadsDown t ranks to root
     down_from_root =
         let joined : AreConnected t to root = connected_through t to from root (connected_back t good from to x.0) (slice_index ranks from, at_root.2.holds) in
         let count : (n : ℕ) × IsHopCount t to root n = connected_have_count t to root joined in
-        walk_down t good ranks count.0 to root (walk_up count.0 to root (connected_within t good from to x.0 from_low) (centre_of_other from to root x.0 centre) count.1)
+        walk_down t good ranks count.0 to root
+        (walk_up count.0 to root (connected_within t good from to x.0 from_low) (one_of_other from to x.0 one) (root_of_other t good named from to root x.0 at_root.1) count.1)
 
     pub none_lacks : ⊥
     none_lacks = no_down t ranks to x.1.0 x.1.1 root none_at_root down_from_root
 
+pub one_root_never_refused : OneRootNeverRefused
+one_root_never_refused t named from to good one x = none_lacks t good named x.0 x.1 from to one x.2.lacks
+
+-- ---- without named roots the centre is the one root
+
+no_name : {root : ℕ} → ¬ Contains [] root
+no_name has = omega (arith, has.1)
+
+centre_alone : (t : Topology) (s : ℕ) → HasOneRoot t [] s
+centre_alone t s a b (inl x) y = absurd (no_name x.0)
+centre_alone t s a b (inr x) (inl y) = absurd (no_name y.0)
+centre_alone t s a b (inr x) (inr y) = one_centre t s a b x.1 y.1
+
 pub unnamed_never_refused : UnnamedNeverRefused
-unnamed_never_refused t from to good x = none_lacks t good x.0 x.1 from to x.2.lacks
+unnamed_never_refused t from to good x = one_root_never_refused t [] from to good (centre_alone t from) x
