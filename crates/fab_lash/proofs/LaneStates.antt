@@ -1,7 +1,6 @@
 -- What stands before a pair is placed, and what a refusal says then.
-use Rattle.std.proofs.Common.{◌≡◌, ℕ, zero, suc, ◌++◌, ◌⊎◌, inl, inr, List, [], ◌∷◌, length, take, subst, sym, arith}
+use Rattle.std.proofs.Common.{◌≡◌, ℕ, zero, suc, ◌⊎◌, inl, inr, List, [], ◌∷◌, length, take, subst, sym, arith}
 use Rattle.std.specs.Prelude.{Contains}
-use Rattle.std.proofs.lemmas.List.Elements.{Contains-append_left, Contains-append_right, Contains-append_cases}
 use Rattle.fab_graph.specs.Walks.{SameGraph}
 use Rattle.fab_graph.proofs.Members.{first, later, first_or_later}
 use Rattle.fab_model.specs.Topology.{Topology}
@@ -10,8 +9,10 @@ use Rattle.fab_depgraph.specs.declared.dep.Dep.{Dep}
 use Rattle.fab_depgraph.specs.Listed.{Dependencies, IsListed, dep_of}
 use Rattle.fab_lash.specs.Pairs.{IsPair, ComesBefore, DependsOnPair}
 use Rattle.fab_lash.specs.Followers.{pair_dependencies}
+use Rattle.fab_lash.specs.Adding.{with_deps, ListsOnce}
 use Rattle.fab_lash.specs.Layerings.{DependsEarlier, FitsLane, HasLayer, NeedsLane}
 use Rattle.fab_lash.specs.Placing.{listed_in, Refuses, IsNowhere, IsPlaced}
+use Rattle.fab_lash.proofs.Adding.{deps_among, deps_there, old_stay}
 use Rattle.fab_lash.proofs.Followers.{lists_pair}
 use Rattle.fab_lash.proofs.LaneSteps.{try_fits, try_fails, layer_found}
 
@@ -20,6 +21,7 @@ pub record AreLayersBefore (t : Topology) (e : Entries) (count : ℕ) (layer : �
   pub lanes : length used ≡ count
   pub earlier : (a b : ℕ) → IsPair t a b → ComesBefore a b low high → HasLayer t e count layer a b
   pub lists : (lane : ℕ) → SameGraph (IsListed (listed_in used lane)) (λ (c d : ℕ). DependsEarlier t e layer lane low high c d)
+  pub once : (lane : ℕ) → ListsOnce (listed_in used lane)
 
 of_take : (xs : List Dep) (n : ℕ) (x : Dep) → Contains (take n xs) x → Contains xs x
 of_take xs zero x has = absurd (omega (arith, has.1))
@@ -29,8 +31,8 @@ of_take (y ∷ ys) (suc n) x has = elim (first_or_later y (take n ys) x has) [ i
 module _ (t : Topology) (e : Entries) (count : ℕ) (layer : ℕ → ℕ → ℕ) (used : List Dependencies) (low high : ℕ) (before : AreLayersBefore t e count layer used low high) where
   pub refuses_not_fits : (lane : ℕ) → Refuses (listed_in used lane) (pair_dependencies t e low high) → ¬ FitsLane t e layer low high lane
   refuses_not_fits lane r =
-      try_fails t e layer lane low high (IsListed (listed_in used lane)) (before.lists lane) (IsListed (listed_in used lane ++ take r.0 (pair_dependencies t e low high)))
-      (λ c d x. some c d (Contains-append_cases (listed_in used lane) (take r.0 (pair_dependencies t e low high)) (dep_of c d) x)) r.1
+      try_fails t e layer lane low high (IsListed (listed_in used lane)) (before.lists lane) (IsListed (with_deps (listed_in used lane) (take r.0 (pair_dependencies t e low high))))
+      (λ c d x. some c d (deps_among (take r.0 (pair_dependencies t e low high)) (listed_in used lane) (dep_of c d) x)) r.1
     where
       some : (c d : ℕ) → Contains (listed_in used lane) (dep_of c d) ⊎ Contains (take r.0 (pair_dependencies t e low high)) (dep_of c d) → DependsOnPair t e low high c d ⊎ IsListed (listed_in used lane) c d
       some c d (inl old) = inr old
@@ -57,13 +59,13 @@ module _ (t : Topology) (e : Entries) (count : ℕ) (layer : ℕ → ℕ → ℕ
     to c d (inl x) = inr x
     to c d (inr x) = inl ((lists_pair t e low high c d).0 x)
 
-    from : (c d : ℕ) → DependsOnPair t e low high c d ⊎ IsListed old c d → Contains (old ++ deps) (dep_of c d)
-    from c d (inl x) = Contains-append_right old deps (dep_of c d) ((lists_pair t e low high c d).1 x)
-    from c d (inr x) = Contains-append_left old deps (dep_of c d) x
+    from : (c d : ℕ) → DependsOnPair t e low high c d ⊎ IsListed old c d → Contains (with_deps old deps) (dep_of c d)
+    from c d (inl x) = deps_there deps old (dep_of c d) ((lists_pair t e low high c d).1 x)
+    from c d (inr x) = old_stay deps old (dep_of c d) x
 
     pub lists_both : SameGraph (IsListed (listed_in new lane)) (λ (c d : ℕ). DependsOnPair t e low high c d ⊎ IsListed old c d)
     lists_both c d = (
-      λ x. to c d (Contains-append_cases old deps (dep_of c d) (subst (λ xs. Contains xs (dep_of c d)) p.taken.0 x)),
+      λ x. to c d (deps_among deps old (dep_of c d) (subst (λ xs. Contains xs (dep_of c d)) p.taken.0 x)),
       λ y. subst (λ xs. Contains xs (dep_of c d)) (sym p.taken.0) (from c d y),
     )
 

@@ -6,7 +6,9 @@ pub mod LayersAcyclic
 pub mod LaneSteps
 pub mod Followers
 pub mod OwnLids
+pub mod Adding
 pub mod Tries
+pub mod FewListed
 pub mod Places
 pub mod PlanNumbers
 pub mod PairChannels
@@ -14,3 +16,4 @@ pub mod LaneStates
 pub mod PairAfterPair
 pub mod PairsInOrder
 pub mod LayerLevels
+pub mod Exists

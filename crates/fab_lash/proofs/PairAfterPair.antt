@@ -14,9 +14,11 @@ use Rattle.fab_depgraph.specs.declared.dep.Dep.{Dep}
 use Rattle.fab_depgraph.specs.Listed.{Dependencies, IsListed}
 use Rattle.fab_lash.specs.Pairs.{IsPair, ComesBefore, DependsOnPair}
 use Rattle.fab_lash.specs.Followers.{pair_dependencies}
+use Rattle.fab_lash.specs.Adding.{ListsOnce}
 use Rattle.fab_lash.specs.Layerings.{DependsEarlier, HasLayer, AreLayers, DependsInLane}
 use Rattle.fab_lash.specs.Layered.{AreUsed}
 use Rattle.fab_lash.specs.Placing.{listed_in, channel_counts, IsPlaced, IsPlacedPair}
+use Rattle.fab_lash.proofs.Adding.{once_nothing, deps_once}
 use Rattle.fab_lash.proofs.OneLayering.{AlikeBefore}
 use Rattle.fab_lash.proofs.LaneLaws.{before-trans}
 use Rattle.fab_lash.proofs.LaneSteps.{has_layer-same, earlier_none, earlier_skip, earlier_elsewhere, earlier_next, earlier_row, earlier_all, pair_below}
@@ -41,6 +43,7 @@ none_placed t e count layer used lanes empty = record {
     λ x. absurd (let P : List Dep → Type 0 = λ xs. IsListed xs c d in let y : IsListed [] c d = subst P (empty lane) x in omega (arith, y.1)),
     λ x. absurd (earlier_none t e layer lane 0 c d (omega arith) x),
   );
+  once = λ lane. let P : List Dep → Type 0 = λ xs. ListsOnce xs in subst P (sym (empty lane)) once_nothing;
 }
 
 -- what layers stand before a pair is said alike by layers that agree there
@@ -52,6 +55,7 @@ said_alike t e count x y used low high alike before = record {
     λ z. let q : DependsEarlier t e x lane low high c d = (before.lists lane c d).0 z in (q.0, q.1, q.2, q.3, sym (alike q.0 q.1 q.2 q.3) ∙ q.4, q.5),
     λ q. (before.lists lane c d).1 (q.0, q.1, q.2, q.3, alike q.0 q.1 q.2 q.3 ∙ q.4, q.5),
   );
+  once = before.once;
 }
 
 last_or_before : (a b low high : ℕ) → ComesBefore a b low (high + 1) → ComesBefore a b low high ⊎ ((a ≡ low) × (b ≡ high))
@@ -64,6 +68,7 @@ module _ (t : Topology) (e : Entries) (count : ℕ) (layer : ℕ → ℕ → ℕ
     lanes = before.lanes;
     earlier = λ a b pair at. earlier a b pair (last_or_before a b low high at);
     lists = λ l. trans (IsListed (listed_in used l)) (λ (c d : ℕ). DependsEarlier t e layer l low high c d) (λ (c d : ℕ). DependsEarlier t e layer l low (high + 1) c d) (before.lists l) (earlier_skip t e layer l low high none);
+    once = before.once;
   })
     where
       earlier : (a b : ℕ) → IsPair t a b → ComesBefore a b low high ⊎ ((a ≡ low) × (b ≡ high)) → HasLayer t e count layer a b
@@ -76,6 +81,7 @@ module _ (t : Topology) (e : Entries) (count : ℕ) (layer : ℕ → ℕ → ℕ
     lanes = same_length used new p.channels ∙ before.lanes;
     earlier = λ a b other at. earlier a b other (last_or_before a b low high at);
     lists = lists;
+    once = once;
   }
     where
       earlier : (a b : ℕ) → IsPair t a b → ComesBefore a b low high ⊎ ((a ≡ low) × (b ≡ high)) → HasLayer t e count layer a b
@@ -112,6 +118,14 @@ module _ (t : Topology) (e : Entries) (count : ℕ) (layer : ℕ → ℕ → ℕ
         | inr differ ↦ elsewhere l differ
       ]
 
+      once : (l : ℕ) → ListsOnce (listed_in new l)
+      once l =
+          let P : List Dep → Type 0 = λ xs. ListsOnce xs in
+          elim (cases_eq l lane) [
+            | inl here ↦ (let Q : ℕ → Type 0 = λ z. ListsOnce (listed_in new z) in subst Q (sym here) (subst P (sym p.taken.0) (deps_once (pair_dependencies t e low high) (listed_in used lane) (before.once lane))))
+            | inr differ ↦ subst P (sym (p.others l differ)) (before.once l)
+          ]
+
   pub one_more_placed : IsWellFormed t → layer low high ≡ lane → IsPlacedPair t e low high used new lane → AreLayersBefore t e count layer new low (high + 1)
   one_more_placed good is placed = elim (pair_decided t low high) [
     | inl pair ↦ took pair is (placed.placed pair)
@@ -126,6 +140,7 @@ module _ (t : Topology) (e : Entries) (count : ℕ) (layer : ℕ → ℕ → ℕ
     earlier = λ a b pair at. before.earlier a b pair (back a b pair at);
     lists = λ l. trans (IsListed (listed_in used l)) (λ (c d : ℕ). DependsEarlier t e layer l low (length t.switches) c d) (λ (c d : ℕ). DependsEarlier t e layer l (low + 1) 0 c d) (before.lists l)
         (earlier_row t e layer l low 0 good (omega arith));
+    once = before.once;
   }
     where
       back : (a b : ℕ) → IsPair t a b → ComesBefore a b (low + 1) 0 → ComesBefore a b low (length t.switches)
@@ -147,6 +162,7 @@ module _ (t : Topology) (e : Entries) (count : ℕ) (layer : ℕ → ℕ → ℕ
       listed = λ lane g at. let P : List Dep → Type 0 = λ xs. SameGraph (IsListed xs) (λ (c d : ℕ). DependsInLane t e layer lane c d) in
           subst P (listed_at used lane g at)
           (trans (IsListed (listed_in used lane)) (λ (c d : ℕ). DependsEarlier t e layer lane (length t.switches) 0 c d) (λ (c d : ℕ). DependsInLane t e layer lane c d) (before.lists lane) (earlier_all t e layer lane 0 good));
+      once = λ lane g at. let P : List Dep → Type 0 = λ xs. ListsOnce xs in subst P (listed_at used lane g at) (before.once lane);
     }
       where
         counted : (us : List Dependencies) (lane : ℕ) (g : Dependencies) → slice_get us lane ≡ Some g → Contains (channel_counts us) g.channels

@@ -1,5 +1,5 @@
 -- A try in one lane leaves the other lanes as they were.
-use Rattle.std.proofs.Common.{◌≡◌, ◌≢◌, ℕ, zero, suc, ◌+◌, ◌<◌, ◌++◌, ◌∷◌, [], Bool, true, false, List, length, All, refl, sym, ◌∙◌, ap, subst, arith, Some, inl, inr}
+use Rattle.std.proofs.Common.{◌≡◌, ◌≢◌, ℕ, zero, suc, ◌+◌, ◌<◌, ◌∷◌, [], Bool, true, false, List, length, All, refl, sym, ◌∙◌, ap, subst, arith, Some, inl, inr}
 use Rattle.std.specs.Prelude.{slice_get, slice_set}
 use Rattle.std.proofs.lemmas.Bool.{cases_eq, cases_lt}
 use Rattle.std.proofs.lemmas.Option.{same_Some, none-some}
@@ -8,6 +8,7 @@ use Rattle.fab_graph.specs.Walks.{IsAcyclic}
 use Rattle.fab_tables.proofs.Verdicts.CertifiedLaws.{contains_of}
 use Rattle.fab_depgraph.specs.declared.dep.Dep.{Dep}
 use Rattle.fab_depgraph.specs.Listed.{Dependencies, IsListed, IsWithin}
+use Rattle.fab_lash.specs.Adding.{with_deps}
 use Rattle.fab_lash.specs.Trying.{TakesAll, TakesNone}
 use Rattle.fab_lash.specs.Placing.{listed_in, channel_counts, FitInto, Refuses, Takes, IsTried, IsPlaced}
 
@@ -16,19 +17,19 @@ listed_at [] lane g is = absurd (none-some g is)
 listed_at (x ∷ xs) zero g is = ap (λ (y : Dependencies). y.listed) (same_Some x g is)
 listed_at (x ∷ xs) (suc lane) g is = listed_at xs lane g is
 
-listed_here : (used : List Dependencies) (lane : ℕ) (g h : Dependencies) → slice_get used lane ≡ Some g → listed_in (slice_set used lane h) lane ≡ h.listed
+pub listed_here : (used : List Dependencies) (lane : ℕ) (g h : Dependencies) → slice_get used lane ≡ Some g → listed_in (slice_set used lane h) lane ≡ h.listed
 listed_here [] lane g h is = absurd (none-some g is)
 listed_here (x ∷ xs) zero g h is = refl
 listed_here (x ∷ xs) (suc lane) g h is = listed_here xs lane g h is
 
-listed_elsewhere : (used : List Dependencies) (lane other : ℕ) (h : Dependencies) → other ≢ lane → listed_in (slice_set used lane h) other ≡ listed_in used other
+pub listed_elsewhere : (used : List Dependencies) (lane other : ℕ) (h : Dependencies) → other ≢ lane → listed_in (slice_set used lane h) other ≡ listed_in used other
 listed_elsewhere [] lane other h differ = refl
 listed_elsewhere (x ∷ xs) zero zero h differ = absurd (differ refl)
 listed_elsewhere (x ∷ xs) zero (suc other) h differ = refl
 listed_elsewhere (x ∷ xs) (suc lane) zero h differ = refl
 listed_elsewhere (x ∷ xs) (suc lane) (suc other) h differ = listed_elsewhere xs lane other h (λ same. differ (ap suc same))
 
-counts_set : (used : List Dependencies) (lane : ℕ) (g h : Dependencies) → slice_get used lane ≡ Some g → h.channels ≡ g.channels → channel_counts (slice_set used lane h) ≡ channel_counts used
+pub counts_set : (used : List Dependencies) (lane : ℕ) (g h : Dependencies) → slice_get used lane ≡ Some g → h.channels ≡ g.channels → channel_counts (slice_set used lane h) ≡ channel_counts used
 counts_set [] lane g h is same = absurd (none-some g is)
 counts_set (x ∷ xs) zero g h is same = ap (λ n. n ∷ channel_counts xs) (same ∙ ap (λ (y : Dependencies). y.channels) (sym (same_Some x g is)))
 counts_set (x ∷ xs) (suc lane) g h is same = ap (λ ns. x.channels ∷ ns) (counts_set xs lane g h is same)
@@ -58,7 +59,7 @@ tried lane old new g m h deps took is set same_listed same_channels kept taken r
       channels = counts_set old lane g h is (kept ∙ same_channels);
       others = λ other differ. listed_elsewhere old lane other h differ;
       taken = λ yes. let t : TakesAll m h deps = taken yes in (
-        here ∙ t.0 ∙ ap (λ xs. xs ++ deps) (same_listed ∙ sym before),
+        here ∙ t.0 ∙ ap (λ (xs : List Dep). with_deps xs deps) (same_listed ∙ sym before),
         let Q : List Dep → Type 0 = λ xs. IsAcyclic (IsListed xs) in subst Q (sym here) t.1,
       );
       refused = λ no. let r : TakesNone m h deps = refused no in (

@@ -1,5 +1,5 @@
 -- Where the dependencies of a pair go.
-use Rattle.std.specs.Prelude.{◌≡◌, ◌≢◌, ℕ, ◌<◌, ◌++◌, Bool, true, false, List, [], length, map, take, All, slice_get, option_map, unwrap_or}
+use Rattle.std.specs.Prelude.{◌≡◌, ◌≢◌, ℕ, ◌+◌, ◌<◌, ◌^◌, Bool, true, false, List, [], length, map, take, All, slice_get, option_map, unwrap_or}
 use Rattle.fab_graph.specs.Walks.{HasClosedWalk, IsAcyclic}
 use Rattle.fab_model.specs.Topology.{Topology}
 use Rattle.fab_tables.specs.Entries.{Entries}
@@ -7,7 +7,8 @@ use Rattle.fab_depgraph.specs.declared.dep.Dep.{Dep}
 use Rattle.fab_depgraph.specs.Listed.{Dependencies, IsListed, IsWithin}
 use Rattle.fab_lash.specs.declared.layered.LashFault.{LashFault}
 use Rattle.fab_lash.specs.declared.layered.LashFault.TheVariants.{NeedsLane, Memory}
-use Rattle.fab_lash.specs.Pairs.{IsPair}
+use Rattle.fab_lash.specs.Pairs.{IsPair, DependsOnPair}
+use Rattle.fab_lash.specs.Adding.{with_deps, ListsOnce}
 use Rattle.fab_lash.specs.Followers.{pair_dependencies}
 
 -- what the arena of a lane lists
@@ -22,13 +23,17 @@ channel_counts used = map (λ (g : Dependencies). g.channels) used
 abbrev pub FitInto : List Dependencies → List Dep → Type 0
 FitInto used deps = All (λ channels. All (λ d. IsWithin channels d) deps) (channel_counts used)
 
+-- each arena could list all of them besides, by their number
+abbrev pub HaveRoom : List Dependencies → List Dep → Type 0
+HaveRoom used deps = (lane : ℕ) → length (listed_in used lane) + length deps < 2 ^ 32
+
 -- with some of them a walk is closed
 abbrev pub Refuses : List Dep → List Dep → Type 0
-Refuses listed deps = (n : ℕ) × HasClosedWalk (IsListed (listed ++ take n deps))
+Refuses listed deps = (n : ℕ) × HasClosedWalk (IsListed (with_deps listed (take n deps)))
 
--- all of them came in, and no walk is closed
+-- all of them are there, and no walk is closed
 abbrev pub Takes : List Dep → List Dep → List Dep → Type 0
-Takes old new deps = (new ≡ old ++ deps) × IsAcyclic (IsListed new)
+Takes old new deps = (new ≡ with_deps old deps) × IsAcyclic (IsListed new)
 
 -- the other lanes list what they did
 abbrev pub KeepsOthers : ℕ → List Dependencies → List Dependencies → Type 0
@@ -52,6 +57,11 @@ pub record IsPlaced (old new : List Dependencies) (deps : List Dep) (lane : ℕ)
 -- no lane takes them
 abbrev pub IsNowhere : List Dependencies → List Dep → Type 0
 IsNowhere old deps = (lane : ℕ) → lane < length old → Refuses (listed_in old lane) deps
+
+-- dependencies of pairs and no other, each once
+pub record ListsPairs (t : Topology) (e : Entries) (listed : List Dep) : Type 0 where
+  pub once : ListsOnce listed
+  pub of_pairs : (c d : ℕ) → IsListed listed c d → (a b : ℕ) × IsPair t a b × DependsOnPair t e a b c d
 
 -- the dependencies of a pair are in the first lane that takes them, and where the switches are no pair nothing changed
 pub record IsPlacedPair (t : Topology) (e : Entries) (low high : ℕ) (old new : List Dependencies) (lane : ℕ) : Type 0 where

@@ -1,5 +1,5 @@
 //! Laws of layers. Each function is empty; what it ensures is the law.
-ghost use Rattle.fab_lash.specs.Laws.{OneLayering, LayeredOrRefused, OneNeedsLane, LanesAreAcyclic, LayeredIsCertified, OneLayeredPlan};
+ghost use Rattle.fab_lash.specs.Laws.{OneLayering, LayeredOrRefused, OneNeedsLane, LanesAreAcyclic, LayeredIsCertified, OneLayeredPlan, LayeredPlanOrRefusalExists};
 
 /// Pairs have one layer each.
 pub fn one_layering()
@@ -29,4 +29,9 @@ pub fn layered_is_certified()
 /// A fabric has one layered plan on so many lanes.
 pub fn one_layered_plan()
     ensures { OneLayeredPlan }
+{}
+
+/// A fabric has a layered plan on so many lanes, or a pair that needs another one.
+pub fn layered_plan_or_refusal_exists()
+    ensures { LayeredPlanOrRefusalExists }
 {}

@@ -3,7 +3,7 @@
 //!
 //! The pairs go by (lower, higher). Time: for each pair that of placing it, which is a step for each hop and lane, and
 //! where an arena's order changes, for what it searches; and that of certifying the plan. Memory: a byte for each two
-//! switches, that of the plan, and 40 bytes for each dependency.
+//! switches, that of the plan, and 40 bytes for each different dependency of a lane.
 //!
 //! Source: Skeie, Lysne and Theiss, "Layered Shortest Path (LASH) Routing in Irregular System Area Networks", 2002;
 //! OpenSM's document on routing, engine `lash`; Dally and Seitz.

@@ -4,10 +4,10 @@
 //!
 //! Source: Skeie, Lysne and Theiss, "Layered Shortest Path (LASH) Routing in Irregular System Area Networks", 2002;
 //! OpenSM's document on routing, engine `lash`.
-ghost use Rattle.std.specs.Prelude.{◌≡◌, ◌<◌, length, IfOk, IfErr, All};
+ghost use Rattle.std.specs.Prelude.{◌≡◌, ℕ, ◌<◌, length, IfOk, IfErr, All};
 ghost use Rattle.fab_model.specs.WellFormed.{IsFabric};
 ghost use Rattle.fab_tables.specs.Fit.{EntriesFit};
-ghost use Rattle.fab_lash.specs.Placing.{channel_counts, IsPlacedPair, FitsNowhere};
+ghost use Rattle.fab_lash.specs.Placing.{channel_counts, listed_in, ListsPairs, IsPlacedPair, FitsNowhere};
 
 use crate::layered::LashFault;
 use crate::pair_routes::write_dependencies;
@@ -35,6 +35,7 @@ pub(crate) fn place_pair<L: Ledger>(
     requires low { low.0 < length fabric.now.switches }
     requires high { high.0 < length fabric.now.switches }
     requires channels { All (λ count. count ≡ length fabric.now.channels) (channel_counts used.old) }
+    requires listed { (lane : ℕ) → ListsPairs fabric.now tables.now (listed_in used.old lane) }
     ensures placed { IfOk result (IsPlacedPair fabric.now tables.now low.0 high.0 used.old used.new) }
     ensures refusal { IfErr result (FitsNowhere fabric.now tables.now low.0 high.0 used.old) }
 {

@@ -13,8 +13,11 @@ mod placing;
 mod trying;
 
 pub use laws::{
-    lanes_are_acyclic, layered_is_certified, layered_or_refused, one_layered_plan, one_layering,
-    one_needs_lane,
+    lanes_are_acyclic, layered_is_certified, layered_or_refused, layered_plan_or_refusal_exists,
+    one_layered_plan, one_layering, one_needs_lane,
 };
 pub use layered::{LashFault, Layered};
 pub use layered_plan::lash;
+
+#[cfg(test)]
+mod tests;

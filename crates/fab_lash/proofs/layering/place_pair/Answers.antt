@@ -3,12 +3,15 @@ use Rattle.fab_model.specs.Connected.{AreConnected}
 use Rattle.fab_depgraph.specs.declared.dep.Dep.{Dep}
 use Rattle.fab_lash.specs.Followers.{pair_dependencies}
 use Rattle.fab_lash.specs.Placing.{IsNowhere, IsPlaced}
+use Rattle.fab_lash.proofs.FewListed.{room_for_pair}
 use Rattle.fab_lash.proofs.PairChannels.{pair_fits}
 use Rattle.fab_lash.proofs.layering.place_pair.Goals as goal
 
 pub place-requires : goal.place-requires
 place-requires g c = record {
   within = pair_fits c.args.fabric.now c.args.tables.now c.args.low.0 c.args.high.0 c.args.used.now c.deref.result.now c.requires.fabric.rows c.requires.channels
+      (c.deref.ensures.value ∙ c.in_ok-write_dependencies.ensures);
+  room = room_for_pair c.args.fabric.now c.requires.fabric.rows c.args.tables.now c.args.low.0 c.args.high.0 c.args.used.now c.deref.result.now c.requires.listed
       (c.deref.ensures.value ∙ c.in_ok-write_dependencies.ensures);
 }
 

@@ -8,6 +8,11 @@ use Rattle.fab_lash.proofs.pair_layers.place_pairs.Goals as goal
 pub place_pair-requires-clause-channels : goal.place_pair-requires-clause-channels
 place_pair-requires-clause-channels g c = counts_are (length c.args.fabric.now.channels) c.args.used.now c.loop-high.used c.requires.channels c.loop-high.invariant.channels
 
+pub place_pair-requires-clause-listed : goal.place_pair-requires-clause-listed
+place_pair-requires-clause-listed g c lane =
+    let was = c.loop-high.invariant.layers in
+    record { once = was.once lane; of_pairs = λ first second listed. let x = (was.lists lane first second).0 listed in (x.0, x.1, x.2, x.5) }
+
 pub returns-in_err-lane-clause-refusal : goal.returns-in_err-lane-clause-refusal
 returns-in_err-lane-clause-refusal g c =
     let t = c.args.fabric.now in

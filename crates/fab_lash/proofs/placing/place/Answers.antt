@@ -1,7 +1,11 @@
-use Rattle.std.proofs.Common.{◌∙◌, Bool, subst, arith}
+use Rattle.std.proofs.Common.{◌∙◌, Bool, length, ap, subst, arith}
+use Rattle.fab_depgraph.specs.declared.dep.Dep.{Dep}
 use Rattle.fab_lash.specs.Placing.{IsTried}
 use Rattle.fab_lash.proofs.Places.{placed, still_same, one_more_refused}
 use Rattle.fab_lash.proofs.placing.place.Goals as goal
+
+pub try_lane-requires-clause-room : goal.try_lane-requires-clause-room
+try_lane-requires-clause-room g c lane = omega (arith, c.requires.room lane, ap (length {A = Dep}) (c.loop-lane.invariant.same lane))
 
 pub returns-then-branch : goal.returns-then-branch
 returns-then-branch g c =
