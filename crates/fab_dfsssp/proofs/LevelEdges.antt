@@ -43,8 +43,8 @@ module _ (t : Topology) (e : Entries) (l : LaneTables) (lane_of : ℕ → ℕ �
     where
       forth : IsEdgeAtLevel t e l lane c d → IsEdgeOfLane t e lane_of lane c d
       forth x =
-          let path : IsSource t x.1.0 × IsConnectedTo t x.1.0 x.0 = level_of_path x.1.0 x.0 lane x.1.1 in
-          (x.1.0, x.0, path.0, path.1, lane_of_level x.1.0 x.0 lane x.1.1, x.1.2)
+          let path : IsSource t x.1 × IsConnectedTo t x.1 x.0 = level_of_path x.1 x.0 lane x.2 in
+          (x.1, x.0, path.0, path.1, lane_of_level x.1 x.0 lane x.2, x.3)
 
       back : IsEdgeOfLane t e lane_of lane c d → IsEdgeAtLevel t e l lane c d
-      back x = (x.1, (x.0, level_of_lane x.0 x.1 x.2 x.3 ∙ ap (λ n. Some n) x.4, x.5))
+      back x = (x.1, x.0, level_of_lane x.0 x.1 x.2 x.3 ∙ ap (λ n. Some n) x.4, x.5)

@@ -15,7 +15,7 @@ use Rattle.fab_certify.specs.EnginePlans.{HasLevels}
 use Rattle.fab_dfsssp.specs.Assignments.{IsEdgeOfLane, contains_edge}
 use Rattle.fab_dfsssp.specs.Moving.{IsLevelOver, MovesLevels}
 use Rattle.fab_dfsssp.proofs.Falling.{sum_below, sum_below-le, sum_below-lt, sum_by-lt}
-use Rattle.fab_dfsssp.proofs.LaneEdges.{level_same, level_other}
+use Rattle.fab_dfsssp.proofs.Levels.{level_same, level_other}
 use Rattle.fab_dfsssp.proofs.LevelEdges.{level_of_lane}
 use Rattle.fab_dfsssp.proofs.RingEdges.{follow-contains}
 
@@ -30,7 +30,7 @@ abbrev pub levels_left : Topology → ℕ → LaneTables → ℕ
 levels_left t count l = sum_by (λ lid. left_to t count l lid) (lids_of t)
 
 module _ (t : Topology) (e : Entries) (count lane : ℕ) (edge : ℕ × ℕ) (old new : LaneTables) (moves : MovesLevels t e lane edge old new) where
-  over_or_not : (s lid : ℕ) → IsLevelOver t e old lane edge s lid ⊎ (¬ IsLevelOver t e old lane edge s lid)
+  pub over_or_not : (s lid : ℕ) → IsLevelOver t e old lane edge s lid ⊎ (¬ IsLevelOver t e old lane edge s lid)
   over_or_not s lid = elim (cases_Bool (option_eq nat_eq (level old s lid) (Some lane))) [
     | inr other ↦ inr (λ x. level_other (level old s lid) lane other x.0)
     | inl on ↦ elim (cases_Bool (contains_edge edge (route t e s lid).channels)) [

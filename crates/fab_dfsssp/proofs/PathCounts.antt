@@ -37,8 +37,11 @@ no_channel : (t : Topology) (e : Entries) (s lid n : ℕ) → entry e s lid ≡ 
 no_channel t e s lid zero none = refl
 no_channel t e s lid (suc n) none = ap (λ port. (after_hop t (λ next. route_within t e lid n next) (hop_by t lid s port)).channels) none
 
+pub no_channels_apart : (t : Topology) (e : Entries) (fixed : HasFixedEntries t e) (s lid : ℕ) → ¬ IsConnectedTo t s lid → (route t e s lid).channels ≡ []
+no_channels_apart t e fixed s lid apart = no_channel t e s lid (length t.switches) (fixed.apart s lid apart)
+
 apart_no_edge : (t : Topology) (e : Entries) (fixed : HasFixedEntries t e) (edge : ℕ × ℕ) (s lid : ℕ) → ¬ IsConnectedTo t s lid → contains_edge edge (route t e s lid).channels ≡ false
-apart_no_edge t e fixed edge s lid apart = ap (contains_edge edge) (no_channel t e s lid (length t.switches) (fixed.apart s lid apart))
+apart_no_edge t e fixed edge s lid apart = ap (contains_edge edge) (no_channels_apart t e fixed s lid apart)
 
 module _ (t : Topology) (e : Entries) (fixed : HasFixedEntries t e) (l : LaneTables) (lane_of : ℕ → ℕ → ℕ) (levels : HasLevels t l (λ s lid n. n ≡ lane_of s lid)) (lane : ℕ) (edge : ℕ × ℕ) where
   level_or_lane : (lid s : ℕ) → is_level_over t e l lane edge lid s ≡ (is_source t s && is_over t e lane_of lane edge s lid)

@@ -1,5 +1,5 @@
 -- Levels are set one after another, LID by LID and switch by switch: each is as it was, or the given one.
-use Rattle.std.proofs.Common.{◌≡◌, ℕ, ◌+◌, ◌<◌, ◌≤◌, ◌⊎◌, inl, inr, List, length, sym, ◌∙◌, subst, arith, Some, Option, None, Contains, slice_get, refl}
+use Rattle.std.proofs.Common.{◌≡◌, ℕ, ◌+◌, ◌<◌, ◌≤◌, ◌⊎◌, inl, inr, List, length, sym, ◌∙◌, subst, arith, Some, Option, None, Contains, slice_get, refl, ap}
 use Rattle.std.specs.Prelude.{◌==◌, ◌&&◌, if◌then◌else◌}
 use Rattle.std.proofs.lemmas.Bool.{cases_lt, cases_eq, eq-eqb, ne_eqb, and_from, and_left, and_right, cond-true, cond-false}
 use Rattle.std.proofs.lemmas.Option.{same_Some}
@@ -10,6 +10,7 @@ use Rattle.fab_tables.specs.Fit.{LanesFit}
 use Rattle.fab_tables.proofs.Rows.LaneSets.{level_set_kept}
 use Rattle.fab_tables.proofs.Rows.Cells.{one_level_changes}
 use Rattle.fab_tables.proofs.Verdicts.CertifiedLaws.{get_of}
+use Rattle.fab_dfsssp.specs.declared.path_index.Path.{Path}
 
 -- a level that is over is given where it is done
 pub record IsReleveled (t : Topology) (Over : ℕ → ℕ → Type 0) (Done : ℕ → ℕ → Type 0) (n : ℕ) (old now : LaneTables) : Type 0 where
@@ -25,6 +26,13 @@ IsOfFirst lids k s lid = (j : ℕ) × (j < k) × (slice_get lids j ≡ Some lid)
 
 abbrev pub IsSoFar : List ℕ → ℕ → ℕ → ℕ → ℕ → Type 0
 IsSoFar lids k below s lid = IsOfFirst lids k s lid ⊎ ((slice_get lids k ≡ Some lid) × (s < below))
+
+-- the first paths of a list are done
+abbrev pub IsAmongFirst : List Path → ℕ → ℕ → ℕ → Type 0
+IsAmongFirst paths k s lid = (p : Path) × (j : ℕ) × (j < k) × (slice_get paths j ≡ Some p) × (p.from.0 ≡ s) × (p.lid.0 ≡ lid)
+
+pub paths_begin : (t : Topology) (Over : ℕ → ℕ → Type 0) (n : ℕ) (paths : List Path) (l : LaneTables) → LanesFit t l → HasLanePerLevel l → IsReleveled t Over (IsAmongFirst paths 0) n l l
+paths_begin t Over n paths l fits maps = record { fits = fits; lane_count = refl; maps = maps; either = λ s lid. inr refl; done = λ s lid d over. absurd (omega (arith, d.2)) }
 
 pub releveled_begins : (t : Topology) (Over : ℕ → ℕ → Type 0) (n : ℕ) (lids : List ℕ) (l : LaneTables) → LanesFit t l → HasLanePerLevel l → IsReleveled t Over (IsOfFirst lids 0) n l l
 releveled_begins t Over n lids l fits maps = record { fits = fits; lane_count = refl; maps = maps; either = λ s lid. inr refl; done = λ s lid d over. absurd (omega (arith, d.1)) }
@@ -52,19 +60,13 @@ module _ (t : Topology) (Over : ℕ → ℕ → Type 0) (n : ℕ) (old now : Lan
   pub all_releveled : (lids : List ℕ) (k : ℕ) → length lids ≤ k → IsReleveled t Over (IsOfFirst lids k) n old now → (s lid : ℕ) → Contains lids lid → Over s lid → level now s lid ≡ Some n
   all_releveled lids k past so_far s lid has over = so_far.done s lid (has.0, omega (arith, has.1, past), get_of lids has.0 lid has.1 has.2) over
 
-  module _ (lids : List ℕ) (k s lid : ℕ) (at : slice_get lids k ≡ Some lid) (so_far : IsReleveled t Over (IsSoFar lids k s) n old now) where
-    split : (o m : ℕ) → IsSoFar lids k (s + 1) o m → IsSoFar lids k s o m ⊎ ((o ≡ s) × (m ≡ lid))
-    split o m (inl d) = inl (inl d)
-    split o m (inr here) = elim (cases_lt o s) [
-      | inl before ↦ inl (inr (here.0, before))
-      | inr past ↦ inr (omega (arith, here.1, past), same_Some m lid (sym here.0 ∙ at))
-    ]
-
+  -- one more level is looked at
+  module _ (Done More : ℕ → ℕ → Type 0) (s lid : ℕ) (split : (o m : ℕ) → More o m → Done o m ⊎ ((o ≡ s) × (m ≡ lid))) (so_far : IsReleveled t Over Done n old now) where
     -- what isn't over, or has the level, is left
-    pub level_left : (Over s lid → level now s lid ≡ Some n) → IsReleveled t Over (IsSoFar lids k (s + 1)) n old now
-    level_left left = redone (IsSoFar lids k s) (IsSoFar lids k (s + 1)) so_far (λ o m d over. go o m over (split o m d))
+    pub left_by : (Over s lid → level now s lid ≡ Some n) → IsReleveled t Over More n old now
+    left_by left = redone Done More so_far (λ o m d over. go o m over (split o m d))
       where
-        go : (o m : ℕ) → Over o m → IsSoFar lids k s o m ⊎ ((o ≡ s) × (m ≡ lid)) → level now o m ≡ Some n
+        go : (o m : ℕ) → Over o m → Done o m ⊎ ((o ≡ s) × (m ≡ lid)) → level now o m ≡ Some n
         go o m over (inl d) = so_far.done o m d over
         go o m over (inr here) = there o m (sym here.0) (sym here.1) over
           where
@@ -103,8 +105,8 @@ module _ (t : Topology) (Over : ℕ → ℕ → Type 0) (n : ℕ) (old now : Lan
         record { general = so_far.maps.general; no_pair = so_far.maps.no_pair },
       )
 
-      pub level_set : IsReleveled t Over (IsSoFar lids k (s + 1)) n old new
-      level_set = record {
+      pub set_by : IsReleveled t Over More n old new
+      set_by = record {
         fits = (in_column (index_of lid now.in_use)).0;
         lane_count = (in_column (index_of lid now.in_use)).1;
         maps = (in_column (index_of lid now.in_use)).2;
@@ -124,9 +126,42 @@ module _ (t : Topology) (Over : ℕ → ℕ → Type 0) (n : ℕ) (old now : Lan
           given_here : level new s lid ≡ Some n
           given_here = changed s lid ∙ cond-true ((s == s) && (lid == lid)) (Some n) (level now s lid) (and_from (s == s) (lid == lid) (eq-eqb s s refl) (eq-eqb lid lid refl))
 
-          before : (o m : ℕ) → Over o m → level new o m ≡ level now o m → IsSoFar lids k s o m ⊎ ((o ≡ s) × (m ≡ lid)) → level now o m ≡ Some n
+          before : (o m : ℕ) → Over o m → level new o m ≡ level now o m → Done o m ⊎ ((o ≡ s) × (m ≡ lid)) → level now o m ≡ Some n
           before o m is same (inl d) = so_far.done o m d is
           before o m is same (inr here) = sym same ∙ there o m (sym here.0) (sym here.1)
             where
               there : (o m : ℕ) → s ≡ o → lid ≡ m → level new o m ≡ Some n
               there o m x y = subst (λ a. level new a m ≡ Some n) x (subst (λ b. level new s b ≡ Some n) y given_here)
+
+  -- the next switch of a LID
+  module _ (lids : List ℕ) (k s lid : ℕ) (at : slice_get lids k ≡ Some lid) (so_far : IsReleveled t Over (IsSoFar lids k s) n old now) where
+    next_switch : (o m : ℕ) → IsSoFar lids k (s + 1) o m → IsSoFar lids k s o m ⊎ ((o ≡ s) × (m ≡ lid))
+    next_switch o m (inl d) = inl (inl d)
+    next_switch o m (inr here) = elim (cases_lt o s) [
+      | inl before ↦ inl (inr (here.0, before))
+      | inr past ↦ inr (omega (arith, here.1, past), same_Some m lid (sym here.0 ∙ at))
+    ]
+
+    pub level_left : (Over s lid → level now s lid ≡ Some n) → IsReleveled t Over (IsSoFar lids k (s + 1)) n old now
+    level_left left = left_by (IsSoFar lids k s) (IsSoFar lids k (s + 1)) s lid next_switch so_far left
+
+    pub level_set : s < length t.switches → Contains (lids_of t) lid → n < 16 → Over s lid → IsReleveled t Over (IsSoFar lids k (s + 1)) n old (with_level now s lid (Some n))
+    level_set low in_use small over = set_by (IsSoFar lids k s) (IsSoFar lids k (s + 1)) s lid next_switch so_far low in_use small over
+
+  -- the next path of a list
+  module _ (paths : List Path) (k : ℕ) (path : Path) (at : slice_get paths k ≡ Some path) (so_far : IsReleveled t Over (IsAmongFirst paths k) n old now) where
+    next_path : (o m : ℕ) → IsAmongFirst paths (k + 1) o m → IsAmongFirst paths k o m ⊎ ((o ≡ path.from.0) × (m ≡ path.lid.0))
+    next_path o m d = elim (cases_lt d.1 k) [
+      | inl before ↦ inl (d.0, d.1, before, d.3, d.4, d.5)
+      | inr past ↦
+          (let here : k ≡ d.1 = omega (arith, d.2, past) in
+          let same : path ≡ d.0 = same_Some path d.0 (sym at ∙ ap (λ j. slice_get paths j) here ∙ d.3) in
+          inr (sym d.4 ∙ ap (λ (p : Path). p.from.0) (sym same), sym d.5 ∙ ap (λ (p : Path). p.lid.0) (sym same)))
+    ]
+
+    pub path_left : (Over path.from.0 path.lid.0 → level now path.from.0 path.lid.0 ≡ Some n) → IsReleveled t Over (IsAmongFirst paths (k + 1)) n old now
+    path_left left = left_by (IsAmongFirst paths k) (IsAmongFirst paths (k + 1)) path.from.0 path.lid.0 next_path so_far left
+
+    pub path_set : path.from.0 < length t.switches → Contains (lids_of t) path.lid.0 → n < 16 → Over path.from.0 path.lid.0 →
+        IsReleveled t Over (IsAmongFirst paths (k + 1)) n old (with_level now path.from.0 path.lid.0 (Some n))
+    path_set low in_use small over = set_by (IsAmongFirst paths k) (IsAmongFirst paths (k + 1)) path.from.0 path.lid.0 next_path so_far low in_use small over

@@ -7,29 +7,30 @@
 //! Source: Domke, Hoefler and Nagel, "Deadlock-Free Oblivious Routing for Arbitrary Topologies", 2011; OpenSM's
 //! document on routing, engine `dfsssp`. Dally and Seitz: what closes no ring is free of deadlock.
 //!
-//! The simple way: for each ring the graph of its lane is built anew, each edge of the ring is counted over all paths of
-//! the lane, and the paths of the lane are gone through once more to move them. With S switches, L LIDs, H hops on the
-//! lane's paths and a ring of K edges a step takes `(K + 2) * (S * L + H)`, beside the tables of least weight and the
-//! certificate; memory: 8 bytes a hop, beside the plan.
-ghost use Rattle.std.specs.Prelude.{◌≡◌, ◌+◌, ◌<◌, ◌≤◌, IfOk, IfErr, OnOk, MatchOption};
-ghost use Rattle.fab_graph.specs.Walks.{IsAcyclic};
-ghost use Rattle.fab_graph.specs.Rings.{IsFirstRing};
+//! The edges of a lane are counted once, when its turn comes, and lowered as paths leave it. The least channel on a
+//! closed walk never falls within a lane, since the lane only loses edges; so channel after channel is looked at, and the
+//! rings through it are broken until it is on none. A ring takes a search back from its first channel, as far as the ring
+//! is long, and what moving the paths over its weakest edge takes. Memory: that of the plan and of one lane's edges.
+ghost use Rattle.std.specs.Prelude.{◌≡◌, ◌+◌, ◌<◌, ◌≤◌, length, IfOk, IfErr, OnOk};
 ghost use Rattle.fab_model.specs.WellFormed.{IsFabric};
 ghost use Rattle.fab_tables.specs.Certified.{IsCertified};
-ghost use Rattle.fab_tables.specs.Fit.{PlanFits, EntriesFit, LanesFit, IsTidy};
-ghost use Rattle.fab_tables.specs.FixedEntries.{HasFixedEntries};
+ghost use Rattle.fab_tables.specs.Fit.{PlanFits, IsTidy};
+ghost use Rattle.fab_sssp.specs.LeastWeightTables.{AreLeastWeightTables};
 ghost use Rattle.fab_dfsssp.specs.Assigned.{IsBrokenBelow, EndsAtRing};
 ghost use Rattle.fab_dfsssp.specs.BrokenLanes.{AreBrokenLanes};
 ghost use Rattle.fab_dfsssp.specs.DfssspPlans.{IsDfssspPlan, IsDfssspFault};
-ghost use Rattle.fab_dfsssp.specs.LaneEdges.{IsEdgeAtLevel};
+ghost use Rattle.fab_dfsssp.specs.LaneCounts.{CountsLane};
+ghost use Rattle.fab_dfsssp.specs.LaneEdges.{HasNoRingBelow};
+ghost use Rattle.fab_dfsssp.specs.PathIndex.{IndexesLane};
 
-use crate::lane_graph::lane_graph;
+use crate::lane_edges::{LaneEdges, lane_edges};
 use crate::least_edge::weakest_edge;
 use crate::moving::move_paths;
 use crate::numbered::numbered_plan;
+use crate::ring_search::ring_through;
 use crate::starting::start_lanes;
 use fab_model::Fabric;
-use fab_rings::{Ring, first_ring};
+use fab_rings::Ring;
 use fab_sssp::lay;
 use fab_tables::{Lanes, Plan, Tables};
 use std::alloc::{AllocError, Global};
@@ -78,7 +79,7 @@ fn broken_lanes(
     tables: &Tables,
     count: u8,
 ) -> Result<Lanes, BreakFault>
-    requires tables { HasFixedEntries fabric.now tables.now }
+    requires tables { AreLeastWeightTables fabric.now tables.now }
     requires count { (0 < count) × (count ≤ 15) }
     ensures fabric { IfOk result (λ lanes. IsFabric fabric.now) }
     ensures lanes { IfOk result (AreBrokenLanes fabric.now tables.now count) }
@@ -100,38 +101,59 @@ fn break_lane(
     lanes: &mut Lanes,
 ) -> Result<(), BreakFault>
     requires fabric { IsFabric fabric.now }
-    requires tables { HasFixedEntries fabric.now tables.now }
+    requires tables { AreLeastWeightTables fabric.now tables.now }
     requires lane { lane < lanes.old.count }
     requires before { IsBrokenBelow fabric.now tables.now lanes.old.count lane lanes.old }
     ensures count { OnOk result (lanes.new.count ≡ lanes.old.count) }
     ensures after { OnOk result (IsBrokenBelow fabric.now tables.now lanes.old.count (lane + 1) lanes.new) }
     ensures refusal { IfErr result (EndsAtRing fabric.now tables.now lanes.old.count) }
 {
-    while let Some(ring) = ring_of_lane(alloc, fabric, tables, lanes, lane)? {
-        if lane + 1 == lanes.count() {
-            return Err(BreakFault::NeedsLane { ring });
-        }
-        let edge = weakest_edge(fabric, tables, lanes, lane, ring.nodes());
-        move_paths(fabric, tables, lane, edge, lanes);
+    let mut edges = lane_edges(alloc, fabric, tables, lanes, lane)?;
+    for channel in 0..fabric.channels() {
+        break_rings(alloc, fabric, tables, lane, channel, lanes, &mut edges)?;
     }
     Ok(())
 }
 
-/// The first ring of a lane.
-fn ring_of_lane(
+/// Does so until no ring leads through a channel, where none leads through a smaller one.
+fn break_rings(
     alloc: Global,
     fabric: &Fabric,
     tables: &Tables,
-    lanes: &Lanes,
     lane: u8,
-) -> Result<Option<Ring>, AllocError>
+    channel: u32,
+    lanes: &mut Lanes,
+    edges: &mut LaneEdges,
+) -> Result<(), BreakFault>
     requires fabric { IsFabric fabric.now }
-    requires tables { EntriesFit fabric.now tables.now }
-    requires lanes { LanesFit fabric.now lanes.now }
-    ensures { IfOk result (λ ring. MatchOption ring
-        (IsAcyclic (IsEdgeAtLevel fabric.now tables.now lanes.now lane))
-        (λ nodes. IsFirstRing (IsEdgeAtLevel fabric.now tables.now lanes.now lane) nodes)) }
+    requires tables { AreLeastWeightTables fabric.now tables.now }
+    requires lane { lane < lanes.old.count }
+    requires channel { channel < length fabric.now.channels }
+    requires before { IsBrokenBelow fabric.now tables.now lanes.old.count lane lanes.old }
+    requires counts { CountsLane fabric.now tables.now lanes.old lane edges.old.counts }
+    requires paths { IndexesLane fabric.now tables.now lanes.old lane edges.old.paths }
+    requires below { HasNoRingBelow fabric.now tables.now lanes.old lane channel }
+    ensures count { OnOk result (lanes.new.count ≡ lanes.old.count) }
+    ensures after { OnOk result (IsBrokenBelow fabric.now tables.now lanes.old.count lane lanes.new) }
+    ensures counts { OnOk result (CountsLane fabric.now tables.now lanes.new lane edges.new.counts) }
+    ensures paths { OnOk result (IndexesLane fabric.now tables.now lanes.new lane edges.new.paths) }
+    ensures below { OnOk result (HasNoRingBelow fabric.now tables.now lanes.new lane (channel + 1)) }
+    ensures refusal { IfErr result (EndsAtRing fabric.now tables.now lanes.old.count) }
 {
-    let graph = lane_graph(alloc, fabric, tables, lanes, lane)?;
-    first_ring(alloc, &graph)
+    while let Some(ring) = ring_through(alloc, &edges.counts, channel)? {
+        if lane + 1 == lanes.count() {
+            return Err(BreakFault::NeedsLane { ring });
+        }
+        let edge = weakest_edge(&edges.counts, ring.nodes());
+        move_paths(
+            fabric,
+            tables,
+            lane,
+            edge,
+            &edges.paths,
+            lanes,
+            &mut edges.counts,
+        )?;
+    }
+    Ok(())
 }

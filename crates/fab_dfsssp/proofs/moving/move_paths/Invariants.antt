@@ -1,13 +1,12 @@
 use Rattle.std.proofs.Common.{◌+◌}
-use Rattle.fab_model.specs.Topology.{lids_of}
+use Rattle.fab_dfsssp.specs.LaneCounts.{CountsLane}
 use Rattle.fab_dfsssp.specs.Moving.{IsLevelOver}
-use Rattle.fab_dfsssp.proofs.Releveling.{IsReleveled, IsOfFirst, IsSoFar}
+use Rattle.fab_dfsssp.specs.PathIndex.{paths_at}
+use Rattle.fab_dfsssp.proofs.Releveling.{IsReleveled, IsAmongFirst}
 use Rattle.fab_dfsssp.proofs.moving.move_paths.Given as goal
 
-abbrev pub invariant-loop-s : goal.invariant-loop-s
-invariant-loop-s l =
-    IsReleveled l.fabric (λ s lid. IsLevelOver l.fabric l.tables l.fn.lanes l.lane l.edge s lid) (IsSoFar (lids_of l.fabric) l.lid-index l.s) (l.lane + 1) l.fn.lanes l.lanes
-
-abbrev pub invariant-loop-lid : goal.invariant-loop-lid
-invariant-loop-lid l =
-    IsReleveled l.fabric (λ s lid. IsLevelOver l.fabric l.tables l.fn.lanes l.lane l.edge s lid) (IsOfFirst (lids_of l.fabric) l.lid-index) (l.lane + 1) l.fn.lanes l.lanes
+abbrev pub invariant-loop-path : goal.invariant-loop-path
+invariant-loop-path l = record {
+  releveled : IsReleveled l.fabric (λ s lid. IsLevelOver l.fabric l.tables l.fn.lanes l.lane l.fn.edge s lid) (IsAmongFirst (paths_at l.fn.paths l.fn.edge) l.path-index) (l.lane + 1) l.fn.lanes l.lanes;
+  counts : CountsLane l.fabric l.tables l.lanes l.lane l.counts;
+}
