@@ -4,3 +4,7 @@ pub mod Counts
 pub mod Heaping
 pub mod Offering
 pub mod UnderWay
+pub mod Beginning
+pub mod Ends
+pub mod Rebuilding
+pub mod Swapped

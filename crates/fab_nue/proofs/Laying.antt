@@ -9,3 +9,8 @@ pub mod LaidRoutes
 pub mod Carrying
 pub mod LayingSteps
 pub mod Weighing
+pub mod WeightsAlike
+pub mod LidAfterLid
+pub mod TreeTables
+pub mod LaidTrees
+pub mod LayingLoop

@@ -3,3 +3,6 @@ pub mod Searching
 pub mod Heaps
 pub mod Laying
 pub mod Plans
+pub mod Lanes
+pub mod Keeping
+pub mod Exists

@@ -12,4 +12,5 @@ pub mod Passing
 pub mod Emptying
 pub mod Choosing
 pub mod Ending
+pub mod Trying
 pub mod SameSearch

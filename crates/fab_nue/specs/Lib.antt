@@ -5,6 +5,14 @@ pub mod Choices
 pub mod Rooms
 pub mod Offers
 pub mod UnderWay
+pub mod Turns
+pub mod Unleveled
 pub mod Kept
 pub mod NuePlan
 pub mod Laws
+pub mod Arenas
+pub mod Forests
+pub mod OldRoutes
+pub mod Laying
+pub mod LidsKept
+pub mod Levels

@@ -55,6 +55,14 @@ impl Choices {
         self.heap.push(Reverse(choice)).unwrap();
     }
 
+    /// Takes out all entries, and keeps the room. It takes no memory.
+    pub(crate) fn clear(&mut self)
+        ensures room { self.new.room ≡ self.old.room }
+        ensures empty { self.new.entries ≡ [] }
+    {
+        self.heap.clear();
+    }
+
     /// Takes out one entry with the least (weight, channel). None exactly where nothing stands in it.
     pub fn pop(&mut self) -> Option<Choice>
         ensures { MatchOption result ((self.old.entries ≡ []) × (self.new ≡ self.old)) (λ choice. LosesLeast self.old self.new choice) }

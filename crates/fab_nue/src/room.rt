@@ -13,7 +13,7 @@ use std::marker::Model;
 pub struct Room {
     /// For each switch the weight of its way, where it has one.
     ways: Vec<Option<u64>>,
-    choices: Choices,
+    pub(crate) choices: Choices,
 }
 
 impl Model for Room {

@@ -10,6 +10,7 @@ ghost use Rattle.std.specs.Prelude.{◌≡◌, ◌<◌, ◌≤◌, [], true, fal
 ghost use Rattle.fab_model.specs.WellFormed.{IsFabric};
 ghost use Rattle.fab_sssp.specs.WeightTables.{weight_of, WeightsFit};
 ghost use Rattle.fab_depgraph.specs.Listed.{Dependencies};
+ghost use Rattle.fab_nue.specs.Laws.{settled_count};
 ghost use Rattle.fab_nue.specs.UnderWay.{IsUnderWay, still_to_do};
 
 use crate::adding::add_behind;
@@ -44,6 +45,7 @@ fn settle_next<L: Ledger>(
     ensures empty { result ≡ false → choices.new.entries ≡ [] }
     ensures fewer { result ≡ true →
         still_to_do fabric.now tree.new choices.new.entries < still_to_do fabric.now tree.old choices.old.entries }
+    ensures grows { settled_count tree.old ≤ settled_count tree.new }
     ensures channels { used.new.channels ≡ used.old.channels }
     ensures room { choices.new.room ≡ choices.old.room }
     ensures counted { steps.old ≤ steps.new }
@@ -84,6 +86,7 @@ pub(crate) fn settle_all<L: Ledger>(
         IsUnderWay fabric.now (λ c. weight_of weights.now c) to.0 start used.old tree.old choices.old.entries →
         IsUnderWay fabric.now (λ c. weight_of weights.now c) to.0 start used.new tree.new choices.new.entries }
     ensures empty { choices.new.entries ≡ [] }
+    ensures grows { settled_count tree.old ≤ settled_count tree.new }
     ensures channels { used.new.channels ≡ used.old.channels }
     ensures room { choices.new.room ≡ choices.old.room }
     ensures counted { steps.old ≤ steps.new }

@@ -20,7 +20,8 @@ use Rattle.fab_escape.specs.Forest.{Forest, escape_next, escape_tree}
 use Rattle.fab_escape.specs.EscapeSet.{home}
 use Rattle.fab_escape.specs.Laws.{EndsWhereItShould}
 use Rattle.fab_nue.specs.Search.{ComesTo}
-use Rattle.fab_nue.specs.NuePlan.{IsLaid, IsLaidTree, IsLaying}
+use Rattle.fab_nue.specs.NuePlan.{IsLaid, IsLaidTree}
+use Rattle.fab_nue.specs.Laying.{AreLaid}
 use Rattle.fab_tables.proofs.Paths.TreeWalks.{goes_walk_of}
 use Rattle.fab_nue.proofs.Searching.SearchTrees.{LeadsTree, empty_next, settled_or_not, unsettled_none, along_connected}
 use Rattle.fab_nue.proofs.Searching.Runs.{run_leads, step_acyclic}
@@ -55,15 +56,15 @@ escape_apart t f to s whole ends low apart = elim (cases_lt s (length f.links)) 
 ]
 
 -- its route has no channel
-apart_route : (t : Topology) (e : Entries) (lid s : ℕ) → entry e s lid ≡ 255 → (route t e s lid).channels ≡ []
+pub apart_route : (t : Topology) (e : Entries) (lid s : ℕ) → entry e s lid ≡ 255 → (route t e s lid).channels ≡ []
 apart_route t e lid s none = within (length t.switches)
   where
     within : (n : ℕ) → (route_within t e lid n s).channels ≡ []
     within zero = refl
     within (suc n) = ap (λ port. (after_hop t (λ z. route_within t e lid n z) (hop_by t lid s port)).channels) none
 
-module _ (t : Topology) (lanes : ℕ) (old : Option Plan) (kept : List ℕ) (forest : ℕ → Forest) (laid : ℕ → List (Option ℕ)) (p : Plan) (good : IsWellFormed t) (some : 0 < lanes)
-    (laying : IsLaying t lanes old kept forest laid p) (trees : EscapeTreesAre t lanes forest) (ends : (on_lane : ℕ) → on_lane < lanes → EndsWhereItShould t (forest on_lane)) (lid : ℕ) (is : IsLaid t kept lid) where
+module _ (t : Topology) (lanes : ℕ) (old : Option Plan) (kept : List ℕ) (forest : ℕ → Forest) (laid : ℕ → List (Option ℕ)) (e : Entries) (good : IsWellFormed t) (some : 0 < lanes)
+    (laying : AreLaid t lanes old kept forest laid e) (trees : EscapeTreesAre t lanes forest) (ends : (on_lane : ℕ) → on_lane < lanes → EndsWhereItShould t (forest on_lane)) (lid : ℕ) (is : IsLaid t kept lid) where
   apart_next : (s : ℕ) → ¬ AreConnected t s (has_place t lid is.0).0.switch.0 → next (laid lid) s ≡ None
   apart_next s apart = by_kind (laying.trees lid (has_place t lid is.0).0 is (has_place t lid is.0).1)
     where
@@ -77,20 +78,20 @@ module _ (t : Topology) (lanes : ℕ) (old : Option Plan) (kept : List ℕ) (for
           (place_below t good lid (has_place t lid is.0).0 (has_place t lid is.0).1) apart
 
   -- from every switch the route is the tree's walk
-  pub every_route : (s : ℕ) → (route t p.tables s lid).channels ≡ walk_of t (laid lid) s
-  every_route s = elim (same_or_other (route t p.tables s lid).channels (walk_of t (laid lid) s)) [
+  pub every_route : (s : ℕ) → (route t e s lid).channels ≡ walk_of t (laid lid) s
+  every_route s = elim (same_or_other (route t e s lid).channels (walk_of t (laid lid) s)) [
     | inl same ↦ same
     | inr other ↦ apart_both other
   ]
     where
-      apart_both : (route t p.tables s lid).channels ≢ walk_of t (laid lid) s → (route t p.tables s lid).channels ≡ walk_of t (laid lid) s
+      apart_both : (route t e s lid).channels ≢ walk_of t (laid lid) s → (route t e s lid).channels ≡ walk_of t (laid lid) s
       apart_both other =
-          let apart : ¬ IsConnectedTo t s lid = λ c. other (laid_route t lanes old kept forest laid p good some laying trees lid is s c) in
-          apart_route t p.tables lid s (laying.tables.fixed.apart s lid apart)
-          ∙ sym (goes_walk_of t (laid lid) s [] (laid_is_tree t lanes old kept forest laid p good some laying trees lid (has_place t lid is.0).0 is (has_place t lid is.0).1).each_switch
+          let apart : ¬ IsConnectedTo t s lid = λ c. other (laid_route t lanes old kept forest laid e good some laying trees lid is s c) in
+          apart_route t e lid s (laying.tables.fixed.apart s lid apart)
+          ∙ sym (goes_walk_of t (laid lid) s [] (laid_is_tree t lanes old kept forest laid e good some laying trees lid (has_place t lid is.0).0 is (has_place t lid is.0).1).each_switch
           (apart_next s (λ c. apart ((has_place t lid is.0).0, (has_place t lid is.0).1, c))))
 
-  pub carried_is_through : (c : ℕ) → terminals_carried t p.tables lid c ≡ terminals_through t (laid lid) c
-  carried_is_through c = sum_same (λ (r : TerminalRow). cond {A = ℕ} (list_any (λ d. d == c) ((route t p.tables r.switch.0 lid).channels)) 1 0)
+  pub carried_is_through : (c : ℕ) → terminals_carried t e lid c ≡ terminals_through t (laid lid) c
+  carried_is_through c = sum_same (λ (r : TerminalRow). cond {A = ℕ} (list_any (λ d. d == c) ((route t e r.switch.0 lid).channels)) 1 0)
       (λ (r : TerminalRow). cond {A = ℕ} (list_any (λ d. d == c) (walk_of t (laid lid) r.switch.0)) 1 0) t.terminals
       (λ r. ap (λ cs. cond {A = ℕ} (list_any (λ d. d == c) cs) 1 0) (every_route r.switch.0))

@@ -22,7 +22,8 @@ use Rattle.fab_tables.proofs.Paths.RouteTurns.{along_channel, TurnsAt, follow_tu
 use Rattle.fab_escape.specs.Forest.{Forest, root_of, link_of, link_into, down_or_up, escape_next, escape_tree}
 use Rattle.fab_escape.specs.EscapeSet.{home}
 use Rattle.fab_nue.specs.Search.{ComesTo}
-use Rattle.fab_nue.specs.NuePlan.{IsLaid, IsLaidTree, IsPortInTree, IsLaying}
+use Rattle.fab_nue.specs.NuePlan.{IsLaid, IsLaidTree, IsPortInTree}
+use Rattle.fab_nue.specs.Laying.{AreLaid}
 use Rattle.fab_nue.proofs.Searching.Growing.{same_or_other}
 use Rattle.fab_tables.proofs.Paths.TreeWalks.{goes_walk_of}
 use Rattle.fab_nue.proofs.Searching.SearchTrees.{empty_next}
@@ -104,8 +105,8 @@ escape_none_there f to = elim (cases_lt to (length f.links)) [
 
 -- ---- the plan
 
-module _ (t : Topology) (lanes : ℕ) (old : Option Plan) (kept : List ℕ) (forest : ℕ → Forest) (laid : ℕ → List (Option ℕ)) (p : Plan) (good : IsWellFormed t) (some : 0 < lanes)
-    (laying : IsLaying t lanes old kept forest laid p) (trees : EscapeTreesAre t lanes forest) (lid : ℕ) (is : IsLaid t kept lid) where
+module _ (t : Topology) (lanes : ℕ) (old : Option Plan) (kept : List ℕ) (forest : ℕ → Forest) (laid : ℕ → List (Option ℕ)) (e : Entries) (good : IsWellFormed t) (some : 0 < lanes)
+    (laying : AreLaid t lanes old kept forest laid e) (trees : EscapeTreesAre t lanes forest) (lid : ℕ) (is : IsLaid t kept lid) where
   none_there : (place : Place) → place_of t lid ≡ Some place → next (laid lid) place.switch.0 ≡ None
   none_there place at = by_kind (laying.trees lid place is at)
     where
@@ -113,16 +114,16 @@ module _ (t : Topology) (lanes : ℕ) (old : Option Plan) (kept : List ℕ) (for
       by_kind {weight} {used} (inl search) = run_none_there t weight used place.switch.0 good search.steps (laid lid) search.run
       by_kind (inr fallback) = ap (λ x. next x place.switch.0) fallback.1 ∙ escape_none_there (forest (home t lid lanes)) place.switch.0
 
-  ports_at : (place : Place) → place_of t lid ≡ Some place → (s : ℕ) → AreConnected t s place.switch.0 → s ≢ place.switch.0 → IsPortInTree t (laid lid) s (entry p.tables s lid)
+  ports_at : (place : Place) → place_of t lid ≡ Some place → (s : ℕ) → AreConnected t s place.switch.0 → s ≢ place.switch.0 → IsPortInTree t (laid lid) s (entry e s lid)
   ports_at place at s connected other = laying.tables.of_laid s lid place.switch.0 is (record { place = place; in_use = at; at_switch = refl; connected = connected; other = other })
 
-  pub laid_depends : (s c d : ℕ) → IsConnectedTo t s lid → Follow (route t p.tables s lid).channels c d → DependsInTree t (laid lid) c d
+  pub laid_depends : (s c d : ℕ) → IsConnectedTo t s lid → Follow (route t e s lid).channels c d → DependsInTree t (laid lid) c d
   laid_depends s c d connected follow =
-      route_depends t p.tables lid connected.0 (laid lid) good connected.1 (laid_is_tree t lanes old kept forest laid p good some laying trees lid connected.0 is connected.1)
-      (own_delivers t p.tables lid connected.0 good laying.tables.fixed connected.1) (ports_at connected.0 connected.1) s c d connected follow
+      route_depends t e lid connected.0 (laid lid) good connected.1 (laid_is_tree t lanes old kept forest laid e good some laying trees lid connected.0 is connected.1)
+      (own_delivers t e lid connected.0 good laying.tables.fixed connected.1) (ports_at connected.0 connected.1) s c d connected follow
 
-  pub laid_route : (s : ℕ) → IsConnectedTo t s lid → (route t p.tables s lid).channels ≡ walk_of t (laid lid) s
+  pub laid_route : (s : ℕ) → IsConnectedTo t s lid → (route t e s lid).channels ≡ walk_of t (laid lid) s
   laid_route s connected =
-      route_is_walk t p.tables lid connected.0 (laid lid) good connected.1 (laid_is_tree t lanes old kept forest laid p good some laying trees lid connected.0 is connected.1)
-      (own_delivers t p.tables lid connected.0 good laying.tables.fixed connected.1) (ports_at connected.0 connected.1) (none_there connected.0 connected.1) s connected
-      (laid_reaches t lanes old kept forest laid p good some laying trees lid s is connected)
+      route_is_walk t e lid connected.0 (laid lid) good connected.1 (laid_is_tree t lanes old kept forest laid e good some laying trees lid connected.0 is connected.1)
+      (own_delivers t e lid connected.0 good laying.tables.fixed connected.1) (ports_at connected.0 connected.1) (none_there connected.0 connected.1) s connected
+      (laid_reaches t lanes old kept forest laid e good some laying trees lid s is connected)

@@ -22,7 +22,8 @@ use Rattle.fab_escape.specs.Forest.{Forest, escape_tree}
 use Rattle.fab_escape.specs.EscapeSet.{home}
 use Rattle.fab_nue.specs.Search.{ComesTo}
 use Rattle.fab_nue.specs.Kept.{AreKept, CanStay, smaller}
-use Rattle.fab_nue.specs.NuePlan.{DependsToEscapeIn, IsLaid, IsLaidTree, IsPortInTree, IsLaying}
+use Rattle.fab_nue.specs.NuePlan.{DependsToEscapeIn, IsLaid, IsLaidTree, IsPortInTree}
+use Rattle.fab_nue.specs.Laying.{AreLaid}
 use Rattle.fab_nue.proofs.Searching.Growing.{same_or_other}
 use Rattle.fab_nue.proofs.Searching.Choosing.{contains_decided}
 use Rattle.fab_tables.proofs.Paths.TreeWalks.{walk_of_next}
@@ -98,8 +99,8 @@ pub kept_stays : (t : Topology) (lanes : ℕ) (escape : ℕ → ℕ → ℕ → 
 kept_stays t lanes escape None kept lid are has = let none : Contains [] lid = subst (λ xs. Contains xs lid) are has in absurd (omega (arith, none.1))
 kept_stays t lanes escape (Some q) kept lid are has = (q, smaller kept lid, refl, (are.each lid (are.in_use lid has)).0 has)
 
-module _ (t : Topology) (lanes : ℕ) (old : Option Plan) (kept : List ℕ) (forest : ℕ → Forest) (laid : ℕ → List (Option ℕ)) (p : Plan) (good : IsWellFormed t) (some : 0 < lanes)
-    (laying : IsLaying t lanes old kept forest laid p) (trees : EscapeTreesAre t lanes forest) where
+module _ (t : Topology) (lanes : ℕ) (old : Option Plan) (kept : List ℕ) (forest : ℕ → Forest) (laid : ℕ → List (Option ℕ)) (e : Entries) (good : IsWellFormed t) (some : 0 < lanes)
+    (laying : AreLaid t lanes old kept forest laid e) (trees : EscapeTreesAre t lanes forest) where
   pub laid_is_tree : (lid : ℕ) (place : Place) → IsLaid t kept lid → place_of t lid ≡ Some place → IsTree t (laid lid)
   laid_is_tree lid place is at = by_kind (laying.trees lid place is at)
     where
@@ -107,23 +108,23 @@ module _ (t : Topology) (lanes : ℕ) (old : Option Plan) (kept : List ℕ) (for
       by_kind {weight} {used} (inl search) = run_is_tree t weight used place.switch.0 good search.steps (laid lid) search.run
       by_kind (inr fallback) = subst (IsTree t) (sym fallback.1) (trees (home t lid lanes) place.switch.0 (home_below t lid lanes place some at) (place_below t good lid place at))
 
-  pub laid_reaches : (lid s : ℕ) → IsLaid t kept lid → IsConnectedTo t s lid → (route t p.tables s lid).end ≡ Delivered
+  pub laid_reaches : (lid s : ℕ) → IsLaid t kept lid → IsConnectedTo t s lid → (route t e s lid).end ≡ Delivered
   laid_reaches lid s is c =
-      tree_reaches t p.tables lid c.0 (laid lid) good c.1 (laid_is_tree lid c.0 is c.1) (own_delivers t p.tables lid c.0 good laying.tables.fixed c.1)
+      tree_reaches t e lid c.0 (laid lid) good c.1 (laid_is_tree lid c.0 is c.1) (own_delivers t e lid c.0 good laying.tables.fixed c.1)
       (λ x joined other. laying.tables.of_laid x lid c.0.switch.0 is (record { place = c.0; in_use = c.1; at_switch = refl; connected = joined; other = other })) s c
 
   -- kept LIDs have the old routes
-  pub kept_route : (q : Plan) (lid s : ℕ) → old ≡ Some q → Contains kept lid → IsConnectedTo t s lid → route t p.tables s lid ≡ route t q.tables s lid
+  pub kept_route : (q : Plan) (lid s : ℕ) → old ≡ Some q → Contains kept lid → IsConnectedTo t s lid → route t e s lid ≡ route t q.tables s lid
   kept_route q lid s is has c =
-      connected_routes_same t p.tables q.tables lid good (λ x joined. subst (λ o. IfSome o (λ r. entry p.tables x lid ≡ entry r.tables x lid)) is (laying.tables.of_kept x lid has joined)) s c
+      connected_routes_same t e q.tables lid good (λ x joined. subst (λ o. IfSome o (λ r. entry e x lid ≡ entry r.tables x lid)) is (laying.tables.of_kept x lid has joined)) s c
 
-  pub kept_reaches : (lid s : ℕ) → Contains kept lid → IsConnectedTo t s lid → (route t p.tables s lid).end ≡ Delivered
+  pub kept_reaches : (lid s : ℕ) → Contains kept lid → IsConnectedTo t s lid → (route t e s lid).end ≡ Delivered
   kept_reaches lid s has c =
       let k : (q : Plan) × (before : List ℕ) × (old ≡ Some q) × CanStay t lanes (λ on_lane x y. DependsToEscapeIn t lanes forest on_lane x y) q before lid
       = kept_stays t lanes (λ on_lane x y. DependsToEscapeIn t lanes forest on_lane x y) old kept lid laying.keeps has in
       ap (λ (r : Route). r.end) (kept_route k.0 lid s k.2 has c) ∙ k.3.delivered s c
 
-  pub laying_reaches : Reaches t p.tables
+  pub laying_reaches : Reaches t e
   laying_reaches s lid c = elim (contains_decided kept lid) [
     | inl has ↦ kept_reaches lid s has c
     | inr not ↦ laid_reaches lid s (connected_in_use t s lid c, not) c

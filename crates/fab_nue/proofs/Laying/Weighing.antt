@@ -1,5 +1,5 @@
 -- The weights while LIDs are laid: at first those of the kept LIDs, and each laid LID adds what its routes carry.
-use Rattle.std.proofs.Common.{◌≡◌, ◌≢◌, ℕ, suc, ◌+◌, ◌<◌, ◌≤◌, ◌⊎◌, inl, inr, Bool, true, false, ◌||◌, List, [], ◌∷◌, cond, refl, sym, ◌∙◌, ap, subst, arith}
+use Rattle.std.proofs.Common.{◌≡◌, ◌≢◌, ℕ, suc, ◌+◌, ◌<◌, ◌≤◌, ◌⊎◌, inl, inr, Bool, true, false, ◌||◌, List, [], ◌∷◌, length, cond, refl, sym, ◌∙◌, ap, subst, arith}
 use Rattle.std.specs.Prelude.{Contains, filter, sum_by, nat_lt, ◌==◌}
 use Rattle.std.specs.List.{list_any}
 use Rattle.std.specs.List.Sorted.{IsStrictlyIncreasing}
@@ -47,7 +47,7 @@ one_more f p q n (y ∷ ys) rise has without with_it same = elim (first_or_later
 
 -- ---- tests of `laid_before`
 
-among : (xs : List ℕ) (x : ℕ) → Contains xs x → list_any (λ y. y == x) xs ≡ true
+pub among : (xs : List ℕ) (x : ℕ) → Contains xs x → list_any (λ y. y == x) xs ≡ true
 among [] x c = absurd (omega (arith, c.1))
 among (y ∷ ys) x c = elim (first_or_later y x ys c) [ inl e ↦ left (y == x) (list_any (λ z. z == x) ys) (eq-eqb y x e) | inr rest ↦ right (y == x) (list_any (λ z. z == x) ys) (among ys x rest) ]
   where
@@ -59,7 +59,7 @@ among (y ∷ ys) x c = elim (first_or_later y x ys c) [ inl e ↦ left (y == x) 
     right true b h = refl
     right false b h = h
 
-not_among : (xs : List ℕ) (x : ℕ) → ¬ Contains xs x → list_any (λ y. y == x) xs ≡ false
+pub not_among : (xs : List ℕ) (x : ℕ) → ¬ Contains xs x → list_any (λ y. y == x) xs ≡ false
 not_among [] x none = refl
 not_among (y ∷ ys) x none = go (not_among ys x (λ c. none (later y x ys c))) (y == x) refl
   where
@@ -117,6 +117,18 @@ module _ (t : Topology) (kept : List ℕ) (rise : IsStrictlyIncreasing (lids_of 
     where
       more : sum_by (λ l. terminals_carried t e l c) (laid_before t kept (suc lid)) ≡ sum_by (λ l. terminals_carried t e l c) (laid_before t kept lid) + terminals_carried t e lid c
       more = one_more (λ l. terminals_carried t e l c) (comes_before kept lid) (comes_before kept (suc lid)) lid (lids_of t) (rise_from (lids_of t) (AllPairs-from_increasing (lids_of t) rise)) is.0
+          (by_number kept lid lid false is.1 (le-ltb lid lid (omega arith))) (by_number kept (suc lid) lid true is.1 (lt-ltb lid (suc lid) (omega arith))) (λ x other. others_same kept lid x other)
+
+  -- and it is one more
+  pub laid_counts : (lid : ℕ) → IsLaid t kept lid → length (laid_before t kept (suc lid)) ≡ length (laid_before t kept lid) + 1
+  laid_counts lid is = omega (arith, counted (laid_before t kept (suc lid)), counted (laid_before t kept lid), more)
+    where
+      counted : (xs : List ℕ) → sum_by (λ l. 1) xs ≡ length xs
+      counted [] = refl
+      counted (x ∷ xs) = omega (arith, sum_by-cons {X = ℕ} (λ l. 1) x xs, counted xs)
+
+      more : sum_by (λ l. 1) (laid_before t kept (suc lid)) ≡ sum_by (λ l. 1) (laid_before t kept lid) + 1
+      more = one_more (λ l. 1) (comes_before kept lid) (comes_before kept (suc lid)) lid (lids_of t) (rise_from (lids_of t) (AllPairs-from_increasing (lids_of t) rise)) is.0
           (by_number kept lid lid false is.1 (le-ltb lid lid (omega arith))) (by_number kept (suc lid) lid true is.1 (lt-ltb lid (suc lid) (omega arith))) (λ x other. others_same kept lid x other)
 
 -- entries of other LIDs don't touch what a LID's routes carry

@@ -6,14 +6,17 @@ use Rattle.std.proofs.lemmas.Option.{same_Some}
 use Rattle.fab_model.specs.Topology.{Topology, is_source}
 use Rattle.fab_model.specs.Connected.{IsConnectedTo}
 use Rattle.fab_tables.specs.declared.plan.Plan.{Plan}
+use Rattle.fab_tables.specs.Entries.{Entries}
 use Rattle.fab_tables.specs.LaneTables.{level, lane_of_level}
 use Rattle.fab_tables.specs.Fit.{LanesFit, PlanFits, IsTidy, IsSource}
 use Rattle.fab_certify.proofs.Engines.EngineLanes.{engine_certified}
 use Rattle.fab_escape.specs.Forest.{Forest}
 use Rattle.fab_escape.specs.Laws.{EscapeTreeIsTree}
 use Rattle.fab_nue.specs.Kept.{old_level, CanStay, KeepsLevel}
-use Rattle.fab_nue.specs.NuePlan.{DependsToEscapeIn, IsNueLevel, IsLaying, IsNuePlan}
+use Rattle.fab_nue.specs.NuePlan.{DependsToEscapeIn, IsNueLevel, IsNuePlan}
+use Rattle.fab_nue.specs.Laying.{AreLaid}
 use Rattle.fab_nue.specs.Laws.{NueIsCertified}
+use Rattle.fab_nue.proofs.Laying.InUse.{laid_out}
 use Rattle.fab_nue.proofs.Laying.Reaching.{home_below, kept_stays, laying_reaches}
 
 -- a level below the count has the lane of its number
@@ -26,10 +29,10 @@ level_of_count count n h = chosen (nat_lt n count) (lt-ltb n count h)
 
 -- ---- levels of Nue
 
-pub nue_level_below : (t : Topology) (lanes : ℕ) (old : Option Plan) (kept : List ℕ) (forest : ℕ → Forest) (laid : ℕ → List (Option ℕ)) (p : Plan) → 0 < lanes →
-    IsLaying t lanes old kept forest laid p → (s lid n : ℕ) → IsSource t s → IsConnectedTo t s lid → IsNueLevel t lanes old kept s lid n → n < lanes
-nue_level_below t lanes old kept forest laid p some laying s lid n source c (inr own) = omega (arith, own.1, home_below t lid lanes c.0 some c.1)
-nue_level_below t lanes old kept forest laid p some laying s lid n source c (inl own) =
+pub nue_level_below : (t : Topology) (lanes : ℕ) (old : Option Plan) (kept : List ℕ) (forest : ℕ → Forest) (laid : ℕ → List (Option ℕ)) (e : Entries) → 0 < lanes →
+    AreLaid t lanes old kept forest laid e → (s lid n : ℕ) → IsSource t s → IsConnectedTo t s lid → IsNueLevel t lanes old kept s lid n → n < lanes
+nue_level_below t lanes old kept forest laid e some laying s lid n source c (inr own) = omega (arith, own.1, home_below t lid lanes c.0 some c.1)
+nue_level_below t lanes old kept forest laid e some laying s lid n source c (inl own) =
     let k : (q : Plan) × (before : List ℕ) × (old ≡ Some q) × CanStay t lanes (λ on_lane x y. DependsToEscapeIn t lanes forest on_lane x y) q before lid
     = kept_stays t lanes (λ on_lane x y. DependsToEscapeIn t lanes forest on_lane x y) old kept lid laying.keeps own.0 in
     let keeps : KeepsLevel t lanes k.0 s lid = k.3.levels s source c in
@@ -37,12 +40,12 @@ nue_level_below t lanes old kept forest laid p some laying s lid n source c (inl
     omega (arith, keeps.below, same_Some keeps.level n (sym keeps.is ∙ given))
 
 -- a source has one level for a LID
-pub one_nue_level : (t : Topology) (lanes : ℕ) (old : Option Plan) (kept : List ℕ) (forest : ℕ → Forest) (laid : ℕ → List (Option ℕ)) (p : Plan) → IsLaying t lanes old kept forest laid p →
+pub one_nue_level : (t : Topology) (lanes : ℕ) (old : Option Plan) (kept : List ℕ) (forest : ℕ → Forest) (laid : ℕ → List (Option ℕ)) (e : Entries) → AreLaid t lanes old kept forest laid e →
     (s lid m n : ℕ) → IsNueLevel t lanes old kept s lid m → IsNueLevel t lanes old kept s lid n → m ≡ n
-one_nue_level t lanes old kept forest laid p x s lid m n (inl a) (inr b) = absurd (b.0 a.0)
-one_nue_level t lanes old kept forest laid p x s lid m n (inr a) (inl b) = absurd (a.0 b.0)
-one_nue_level t lanes old kept forest laid p x s lid m n (inr a) (inr b) = a.1 ∙ sym b.1
-one_nue_level t lanes old kept forest laid p x s lid m n (inl a) (inl b) =
+one_nue_level t lanes old kept forest laid e x s lid m n (inl a) (inr b) = absurd (b.0 a.0)
+one_nue_level t lanes old kept forest laid e x s lid m n (inr a) (inl b) = absurd (a.0 b.0)
+one_nue_level t lanes old kept forest laid e x s lid m n (inr a) (inr b) = a.1 ∙ sym b.1
+one_nue_level t lanes old kept forest laid e x s lid m n (inl a) (inl b) =
     of_old (kept_stays t lanes (λ lane c d. DependsToEscapeIn t lanes forest lane c d) old kept lid x.keeps a.0).0 (kept_stays t lanes (λ lane c d. DependsToEscapeIn t lanes forest lane c d) old kept lid x.keeps a.0).2
   where
     of_old : (r : Plan) → old ≡ Some r → m ≡ n
@@ -55,8 +58,8 @@ one_nue_level t lanes old kept forest laid p x s lid m n (inl a) (inl b) =
 pub nue_is_certified : EscapeTreeIsTree → NueIsCertified
 nue_is_certified trees t lanes old kept p good some few plan =
     engine_certified t lanes (λ s lid n. IsNueLevel t lanes old kept s lid n) p good
-    (laying_reaches t lanes old kept plan.0 plan.1 p good some plan.2 (λ on_lane to below low. trees t on_lane (plan.0 on_lane) to good (plan.2.forests on_lane below) low))
-    (nue_level_below t lanes old kept plan.0 plan.1 p some plan.2) plan.2.plan
+    (laying_reaches t lanes old kept plan.0 plan.1 p.tables good some (laid_out t lanes old kept plan.0 plan.1 p plan.2) (λ on_lane to below low. trees t on_lane (plan.0 on_lane) to good (plan.2.forests on_lane below) low))
+    (nue_level_below t lanes old kept plan.0 plan.1 p.tables some (laid_out t lanes old kept plan.0 plan.1 p plan.2)) plan.2.plan
 
 -- ---- it fits, and no level stands at a switch that isn't a source
 

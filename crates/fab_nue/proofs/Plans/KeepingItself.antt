@@ -34,7 +34,7 @@ use Rattle.fab_nue.specs.Laws.{NueKeepsItself}
 use Rattle.fab_nue.proofs.Searching.Choosing.{contains_decided}
 use Rattle.fab_nue.proofs.Laying.Members.{first_or_later, same_members}
 use Rattle.fab_nue.proofs.Laying.KeptLists.{from_smaller}
-use Rattle.fab_nue.proofs.Laying.InUse.{all_acyclic}
+use Rattle.fab_nue.proofs.Laying.InUse.{all_acyclic, laid_out}
 use Rattle.fab_nue.proofs.Laying.Reaching.{EscapeTreesAre, kept_stays, kept_route, laying_reaches}
 use Rattle.fab_nue.proofs.Laying.LaidRoutes.{laid_depends}
 use Rattle.fab_nue.proofs.Plans.CertifiedPlan.{level_of_count, nue_level_below, one_nue_level}
@@ -78,13 +78,13 @@ module _ (t : Topology) (lanes : ℕ) (older : Option Plan) (before : List ℕ) 
       go : Contains before lid ⊎ (¬ Contains before lid) → IsNueLevel t lanes older before r.0 lid on_lane → IsInUse t lanes older before forest laid (λ other. Unit {0}) on_lane c d
       go (inl has) (inr own) = absurd (own.0 has)
       go (inr not) (inl own) = absurd (not own.0)
-      go (inr not) (inr own) = inr (inr (lid, (used, not), tt, sym own.1, laid_depends t lanes older before forest laid o good some x trees lid (used, not) r.0 c d r.2 r.4))
+      go (inr not) (inr own) = inr (inr (lid, (used, not), tt, sym own.1, laid_depends t lanes older before forest laid o.tables good some (laid_out t lanes older before forest laid o x) trees lid (used, not) r.0 c d r.2 r.4))
       go (inl has) (inl own) =
           let k : (q : Plan) × (bs : List ℕ) × (older ≡ Some q) × CanStay t lanes (λ lane a b. DependsToEscapeIn t lanes forest lane a b) q bs lid
           = kept_stays t lanes (λ lane a b. DependsToEscapeIn t lanes forest lane a b) older before lid x.keeps has in
           let at : old_level k.0.lanes r.0 lid ≡ Some on_lane = subst (λ p. IfSome p (λ z. old_level z.lanes r.0 lid ≡ Some on_lane)) k.2 own.1 in
           let follow : Follow (route t k.0.tables r.0 lid).channels c d
-          = subst (λ (z : Route). Follow z.channels c d) (kept_route t lanes older before forest laid o good some x trees k.0 lid r.0 k.2 has r.2) r.4 in
+          = subst (λ (z : Route). Follow z.channels c d) (kept_route t lanes older before forest laid o.tables good some (laid_out t lanes older before forest laid o x) trees k.0 lid r.0 k.2 has r.2) r.4 in
           let depends : DependsOnKept t k.0 before on_lane c d = (lid, has, (r.0, r.1, r.2, at, follow)) in
           inr (inl (subst (λ p. DependsOnOld t p before on_lane c d) (sym k.2) depends))
 
@@ -94,7 +94,7 @@ module _ (t : Topology) (lanes : ℕ) (older : Option Plan) (before : List ℕ) 
   keeps_level : lanes ≤ 15 → (s lid : ℕ) → IsSource t s → IsConnectedTo t s lid → KeepsLevel t lanes o s lid
   keeps_level few s lid source connected =
       let given : (m : ℕ) × IsNueLevel t lanes older before s lid m × (level x.plan.lanes s lid ≡ Some m) = x.plan.levels.levels s lid source connected in
-      let below : given.0 < lanes = nue_level_below t lanes older before forest laid o some x s lid given.0 source connected given.1 in
+      let below : given.0 < lanes = nue_level_below t lanes older before forest laid o.tables some (laid_out t lanes older before forest laid o x) s lid given.0 source connected given.1 in
       record {
         level = given.0;
         is = level_is s lid ∙ given.2;
@@ -111,7 +111,7 @@ module _ (t : Topology) (lanes : ℕ) (older : Option Plan) (before : List ℕ) 
       (same_forest : (on_lane : ℕ) → on_lane < lanes → forest' on_lane ≡ forest on_lane) where
     can_stay : (lid : ℕ) → Contains (lids_of t) lid → CanStay t lanes (λ lane a b. DependsToEscapeIn t lanes forest' lane a b) o (smaller kept lid) lid
     can_stay lid used = record {
-      delivered = λ s connected. laying_reaches t lanes older before forest laid o good some x trees s lid connected;
+      delivered = λ s connected. laying_reaches t lanes older before forest laid o.tables good some (laid_out t lanes older before forest laid o x) trees s lid connected;
       levels = λ s source connected. keeps_level few s lid source connected;
       closes_none = λ on_lane below. part_acyclic
           (λ (c d : ℕ). DependsToEscapeIn t lanes forest' on_lane c d ⊎ DependsOnKept t o (smaller kept lid) on_lane c d ⊎ DependsOnOldRoute t o lid on_lane c d)
@@ -121,7 +121,7 @@ module _ (t : Topology) (lanes : ℕ) (older : Option Plan) (before : List ℕ) 
             | inr (inl k) ↦ old_in_use k.0 on_lane c d (y.keeps.in_use k.0 (from_smaller kept lid k.0 k.1).0) k.2
             | inr (inr own) ↦ old_in_use lid on_lane c d used own
           ])
-          (all_acyclic t lanes older before forest laid o good x on_lane below (acyclic on_lane below));
+          (all_acyclic t lanes older before forest laid o.tables good (laid_out t lanes older before forest laid o x) on_lane below (acyclic on_lane below));
     }
 
     is_kept : (lid : ℕ) → Contains (lids_of t) lid → Contains kept lid
@@ -142,7 +142,7 @@ module _ (t : Topology) (lanes : ℕ) (older : Option Plan) (before : List ℕ) 
     same_level s lid m n source connected a (inr b) = absurd (b.0 (is_kept lid (connected_in_use t s lid connected)))
     same_level s lid m n source connected a (inl b) =
         let given : (l : ℕ) × IsNueLevel t lanes older before s lid l × (level x.plan.lanes s lid ≡ Some l) = x.plan.levels.levels s lid source connected in
-        one_nue_level t lanes older before forest laid o x s lid m given.0 a given.1 ∙ same_Some given.0 n (sym given.2 ∙ sym (level_is s lid) ∙ b.1)
+        one_nue_level t lanes older before forest laid o.tables (laid_out t lanes older before forest laid o x) s lid m given.0 a given.1 ∙ same_Some given.0 n (sym given.2 ∙ sym (level_is s lid) ∙ b.1)
 
     pub same_plan : p ≡ o
     same_plan = sym (one_engine_plan t lanes (λ s lid n. IsNueLevel t lanes older before s lid n) (λ s lid n. IsNueLevel t lanes (Some o) kept s lid n) o p

@@ -30,26 +30,13 @@ use Rattle.fab_nue.specs.NuePlan.{DependsToEscapeIn, IsLaid, IsInUse, laid_befor
 use Rattle.fab_nue.specs.Laws.{OneNuePlan}
 use Rattle.fab_nue.proofs.Searching.Growing.{same_or_other}
 use Rattle.fab_nue.proofs.Searching.Choosing.{contains_decided}
-use Rattle.fab_nue.proofs.Laying.Members.{from_filter, first, later}
+use Rattle.fab_nue.proofs.Laying.Members.{from_filter, sum_members, found}
 use Rattle.fab_nue.proofs.Laying.LidPlaces.{has_place}
 use Rattle.fab_nue.proofs.Laying.KeptLists.{one_kept}
 use Rattle.fab_nue.proofs.Searching.SameSearch.{sum_same, one_laid_tree}
+use Rattle.fab_nue.proofs.Laying.InUse.{laid_out}
 use Rattle.fab_nue.proofs.Laying.Reaching.{EscapeTreesAre, kept_stays, home_below}
 use Rattle.fab_nue.proofs.Plans.CertifiedPlan.{one_nue_level}
-
--- a sum looks at the members alone
-sum_members : (f g : ℕ → ℕ) (xs : List ℕ) → ((x : ℕ) → Contains xs x → f x ≡ g x) → sum_by f xs ≡ sum_by g xs
-sum_members f g [] same = refl
-sum_members f g (x ∷ xs) same =
-    sum_by-cons f x xs ∙ ap (λ n. n + sum_by f xs) (same x (first x x xs refl)) ∙ ap (λ n. g x + n) (sum_members f g xs (λ y c. same y (later x y xs c))) ∙ sym (sum_by-cons g x xs)
-
-found : (xs : List ℕ) (x : ℕ) → list_any (λ y. y == x) xs ≡ true → Contains xs x
-found [] x h = cc
-found (y ∷ ys) x h = go (λ k. found ys x k) (y == x) refl h
-  where
-    go : (list_any (λ z. z == x) ys ≡ true → Contains ys x) → (b : Bool) → (y == x) ≡ b → (b || list_any (λ z. z == x) ys) ≡ true → Contains (y ∷ ys) x
-    go more true is k = first y x ys (eqb-true y x is)
-    go more false is k = later y x ys (more k)
 
 module _ (t : Topology) (lanes : ℕ) (old : Option Plan) (kept : List ℕ) (good : IsWellFormed t) (some : 0 < lanes)
     (forest other : ℕ → Forest) (laid also : ℕ → List (Option ℕ)) (p q : Plan) (x : IsLaying t lanes old kept forest laid p) (y : IsLaying t lanes old kept other also q)
@@ -162,7 +149,7 @@ module _ (t : Topology) (lanes : ℕ) (old : Option Plan) (kept : List ℕ) (goo
   same_plan =
       one_engine_plan t lanes (λ s lid n. IsNueLevel t lanes old kept s lid n) (λ s lid n. IsNueLevel t lanes old kept s lid n) p q
       (entries_same t p.tables q.tables x.tables.fixed.fits y.tables.fixed.fits (λ s lid. sym (all_entries s lid)))
-      (λ s lid m n source c. one_nue_level t lanes old kept forest laid p x s lid m n) x.plan y.plan
+      (λ s lid m n source c. one_nue_level t lanes old kept forest laid p.tables (laid_out t lanes old kept forest laid p x) s lid m n) x.plan y.plan
 
 -- what escape trees owe: a lane has one forest, and its trees are trees
 pub one_nue_plan : OneForest → EscapeTreeIsTree → OneNuePlan

@@ -93,13 +93,16 @@ shorter_goes_on t weight used to n m x y h a b =
 
 -- ---- ends
 
+-- the tail of a channel is connected to what its tip is connected to
+pub tail_joined : (t : Topology) (c to : ℕ) → c < length t.channels → AreConnected t (tip t c) to → AreConnected t (tail t c) to
+tail_joined t c to channel on =
+    let leaves : LeavesSwitch t c (tail t c) = channel_leaves t c channel in
+    (suc on.0, (tip t c, (leaves.0, contains_of t.channels c leaves.0 leaves.1, leaves.2, sym (ap tip_of_row leaves.1)), on.1))
+
 -- the tail of a channel to a settled switch is connected to the destination
 pub tail_connected : (t : Topology) (used : ℕ → ℕ → Type 0) (to : ℕ) (tree : List (Option ℕ)) (c : ℕ) → LeadsTree t used to tree → c < length t.channels → IsSettled to tree (tip t c) →
     AreConnected t (tail t c) to
-tail_connected t used to tree c x channel settled =
-    let leaves : LeavesSwitch t c (tail t c) = channel_leaves t c channel in
-    let on : AreConnected t (tip t c) to = along_connected t (tip t c) to (walk_of t tree (tip t c)) (x.leads (tip t c) settled) in
-    (suc on.0, (tip t c, (leaves.0, contains_of t.channels c leaves.0 leaves.1, leaves.2, sym (ap tip_of_row leaves.1)), on.1))
+tail_connected t used to tree c x channel settled = tail_joined t c to channel (along_connected t (tip t c) to (walk_of t tree (tip t c)) (x.leads (tip t c) settled))
 
 -- no step leads on from a complete tree
 pub complete_stops : (t : Topology) (weight : ℕ → ℕ) (used : ℕ → ℕ → Type 0) (to : ℕ) (x : List (Option ℕ)) → LeadsTree t used to x → IsComplete t to x → ¬ StepsOn t weight used to x

@@ -8,9 +8,10 @@ use Rattle.fab_model.specs.Connected.{LeadsAlong}
 use Rattle.fab_model.specs.WellFormed.{IsWellFormed}
 use Rattle.fab_tables.specs.Route.{tip}
 use Rattle.fab_tables.specs.Trees.{next, LeavesSwitch}
-use Rattle.fab_tables.specs.TreeWalks.{GoesAlong, walk_of}
+use Rattle.fab_tables.specs.TreeWalks.{GoesAlong, IsTree, walk_of}
 use Rattle.fab_depgraph.specs.Listed.{IsListed}
-use Rattle.fab_nue.specs.Search.{tail, with_channel, swapped, IsSettled, IsAllowed, Swaps}
+use Rattle.fab_nue.specs.Search.{tail, with_channel, swapped, IsSettled, ClosesNone, IsAllowed, Swaps}
+use Rattle.fab_nue.specs.Turns.{MayTurn}
 use Rattle.fab_nue.specs.Laws.{SwappingLeads}
 use Rattle.fab_nue.proofs.Searching.Growing.{read_same, read_other, same_or_other}
 use Rattle.fab_nue.proofs.Searching.Swapping.{AgreeBut, IsTurned, walk_apart, ends_still}
@@ -43,25 +44,51 @@ module _ (t : Topology) (old new : List (Option ℕ)) (x v turned added : ℕ) (
           let rest : LeadsFrom t new to (tip t c) = by_case (tip t c) cs (same_or_other (tip t c) x) (same_or_other (tip t c) v) goes.1 (leads_after t s c to cs leads) in
           (c ∷ rest.0, (w.agree s from_x from_v ∙ goes.0, rest.1), leads_before t s c to rest.0 (leads.0, leads.1, leads.2) rest.2)
 
-module _ (t : Topology) (used : ℕ → ℕ → Type 0) (to : ℕ) (old : List (Option ℕ)) (added turned : ℕ) (good : IsWellFormed t) (x : LeadsTree t used to old) (allowed : IsAllowed t used to old added turned) where
+pub may_turn : (t : Topology) (used : ℕ → ℕ → Type 0) (to : ℕ) (tree : List (Option ℕ)) (added turned : ℕ) → IsAllowed t used to tree added turned → MayTurn t to tree added turned
+may_turn t used to tree added turned x = record {
+  channel = x.channel;
+  other_channel = x.other_channel;
+  from = x.from;
+  into = x.into;
+  not_destination = x.not_destination;
+  there = x.there;
+  further = x.further;
+  apart = x.apart;
+}
+
+pub allowed_if : (t : Topology) (used : ℕ → ℕ → Type 0) (to : ℕ) (tree : List (Option ℕ)) (added turned : ℕ) → MayTurn t to tree added turned → ClosesNone t used (swapped t tree added turned) →
+    IsAllowed t used to tree added turned
+allowed_if t used to tree added turned x closes = record {
+  channel = x.channel;
+  other_channel = x.other_channel;
+  from = x.from;
+  into = x.into;
+  not_destination = x.not_destination;
+  there = x.there;
+  further = x.further;
+  apart = x.apart;
+  closes_none = closes;
+}
+
+module _ (t : Topology) (used : ℕ → ℕ → Type 0) (to : ℕ) (old : List (Option ℕ)) (added turned : ℕ) (good : IsWellFormed t) (x : LeadsTree t used to old) (may : MayTurn t to old added turned) where
   pub turned_other : tip t added ≢ tail t added
-  turned_other e = allowed.from (subst (IsSettled to old) e allowed.into)
+  turned_other e = may.from (subst (IsSettled to old) e may.into)
 
   tails_differ : tail t turned ≢ tail t added
-  tails_differ e = turned_other (sym allowed.there ∙ e)
+  tails_differ e = turned_other (sym may.there ∙ e)
 
   pub others_stay : AgreeBut (tip t added) (tail t added) old (swapped t old added turned)
-  others_stay s from_x from_v = read_other (with_channel t old turned) (tail t added) s (Some added) from_v ∙ read_other old (tail t turned) s (Some turned) (λ e. from_x (e ∙ allowed.there))
+  others_stay s from_x from_v = read_other (with_channel t old turned) (tail t added) s (Some added) from_v ∙ read_other old (tail t turned) s (Some turned) (λ e. from_x (e ∙ may.there))
 
   pub turns_it : next (swapped t old added turned) (tip t added) ≡ Some turned
   turns_it =
-      ap (λ y. next (swapped t old added turned) y) (sym allowed.there)
+      ap (λ y. next (swapped t old added turned) y) (sym may.there)
       ∙ read_other (with_channel t old turned) (tail t added) (tail t turned) (Some added) tails_differ
-      ∙ read_same old (tail t turned) (Some turned) (omega (arith, x.is_tree.each_switch, tail_below t turned good allowed.other_channel))
+      ∙ read_same old (tail t turned) (Some turned) (omega (arith, x.is_tree.each_switch, tail_below t turned good may.other_channel))
 
   pub adds_it : next (swapped t old added turned) (tail t added) ≡ Some added
   adds_it = read_same (with_channel t old turned) (tail t added) (Some added)
-      (omega (arith, x.is_tree.each_switch, tail_below t added good allowed.channel, length-set old (tail t turned) (Some turned)))
+      (omega (arith, x.is_tree.each_switch, tail_below t added good may.channel, length-set old (tail t turned) (Some turned)))
 
   way_goes : GoesAlong t old (tip t turned) (walk_of t old (tip t turned))
   way_goes = walk_goes t old (tip t turned) x.is_tree
@@ -73,12 +100,12 @@ module _ (t : Topology) (used : ℕ → ℕ → Type 0) (to : ℕ) (old : List (
     adds = adds_it;
     leads = refl;
     on = walk_apart t old (swapped t old added turned) (tip t added) (tail t added) (tip t turned) (walk_of t old (tip t turned)) others_stay
-        (avoids_from t (tip t added) (tip t turned) (walk_of t old (tip t turned)) allowed.apart)
-        (avoids_unsettled t to old (tail t added) (tip t turned) (walk_of t old (tip t turned)) allowed.from way_goes (x.leads (tip t turned) allowed.further)) way_goes;
+        (avoids_from t (tip t added) (tip t turned) (walk_of t old (tip t turned)) may.apart)
+        (avoids_unsettled t to old (tail t added) (tip t turned) (walk_of t old (tip t turned)) may.from way_goes (x.leads (tip t turned) may.further)) way_goes;
   }
 
   turned_leaves : LeavesSwitch t turned (tip t added)
-  turned_leaves = subst (LeavesSwitch t turned) allowed.there (channel_leaves t turned allowed.other_channel)
+  turned_leaves = subst (LeavesSwitch t turned) may.there (channel_leaves t turned may.other_channel)
 
   whole : length (swapped t old added turned) ≡ length t.switches
   whole = length-set (with_channel t old turned) (tail t added) (Some added) ∙ length-set old (tail t turned) (Some turned) ∙ x.is_tree.each_switch
@@ -93,18 +120,18 @@ module _ (t : Topology) (used : ℕ → ℕ → Type 0) (to : ℕ) (old : List (
 
       by_case : (s ≡ tip t added) ⊎ (s ≢ tip t added) → (s ≡ tail t added) ⊎ (s ≢ tail t added) → LeavesSwitch t d s
       by_case (inl e) at_v = moved (tip t added) turned e turns_it turned_leaves
-      by_case (inr from_x) (inl e) = moved (tail t added) added e adds_it (channel_leaves t added allowed.channel)
+      by_case (inr from_x) (inl e) = moved (tail t added) added e adds_it (channel_leaves t added may.channel)
       by_case (inr from_x) (inr from_v) = x.is_tree.leaves s d (sym (others_stay s from_x from_v) ∙ h)
 
   leads_way : (s : ℕ) → IsSettled to old s → LeadsFrom t (swapped t old added turned) to s
   leads_way s settled =
       leads_still t old (swapped t old added turned) (tip t added) (tail t added) turned added (walk_of t old (tip t turned)) is_turned to turned_leaves
-      (channel_leaves t added allowed.channel) (x.leads (tip t turned) allowed.further) s (walk_of t old s) (walk_goes t old s x.is_tree) (x.leads s settled)
+      (channel_leaves t added may.channel) (x.leads (tip t turned) may.further) s (walk_of t old s) (walk_goes t old s x.is_tree) (x.leads s settled)
 
   added_way : LeadsFrom t (swapped t old added turned) to (tail t added)
   added_way =
       leads_at_added t old (swapped t old added turned) (tip t added) (tail t added) turned added (walk_of t old (tip t turned)) is_turned to turned_leaves
-      (channel_leaves t added allowed.channel) (x.leads (tip t turned) allowed.further)
+      (channel_leaves t added may.channel) (x.leads (tip t turned) may.further)
 
   -- what is settled in the new tree was settled, or is the switch that is added
   settled_before : (s : ℕ) → IsSettled to (swapped t old added turned) s → (s ≡ tail t added) ⊎ IsSettled to old s
@@ -112,29 +139,32 @@ module _ (t : Topology) (used : ℕ → ℕ → Type 0) (to : ℕ) (old : List (
     where
       by_case : IsSettled to (swapped t old added turned) s → (s ≡ tip t added) ⊎ (s ≢ tip t added) → (s ≡ tail t added) ⊎ (s ≢ tail t added) → (s ≡ tail t added) ⊎ IsSettled to old s
       by_case settled at_x (inl e) = inl e
-      by_case settled (inl e) (inr from_v) = inr (subst (IsSettled to old) (sym e) allowed.into)
+      by_case settled (inl e) (inr from_v) = inr (subst (IsSettled to old) (sym e) may.into)
       by_case (inl e) (inr from_x) (inr from_v) = inr (inl e)
       by_case (inr h) (inr from_x) (inr from_v) = inr (inr (subst (λ o. IsSome o) (others_stay s from_x from_v) h))
 
   leads_new : (s : ℕ) → IsSettled to (swapped t old added turned) s → LeadsFrom t (swapped t old added turned) to s
   leads_new s settled = elim (settled_before s settled) [ inl e ↦ subst (LeadsFrom t (swapped t old added turned) to) (sym e) added_way | inr before ↦ leads_way s before ]
 
-  pub swapped_leads : LeadsTree t used to (swapped t old added turned)
-  swapped_leads = record {
-    is_tree = record {
-      each_switch = whole;
-      leaves = leaves_still;
-      ends = λ s. ends_still t old (swapped t old added turned) (tip t added) (tail t added) turned added (walk_of t old (tip t turned)) is_turned s (walk_of t old s) (walk_goes t old s x.is_tree);
-    };
-    none_there = others_stay to (λ e. allowed.not_destination (sym e)) (λ e. allowed.from (inl (sym e))) ∙ x.none_there;
+  pub swapped_is_tree : IsTree t (swapped t old added turned)
+  swapped_is_tree = record {
+    each_switch = whole;
+    leaves = leaves_still;
+    ends = λ s. ends_still t old (swapped t old added turned) (tip t added) (tail t added) turned added (walk_of t old (tip t turned)) is_turned s (walk_of t old s) (walk_goes t old s x.is_tree);
+  }
+
+  pub swapped_leads : ClosesNone t used (swapped t old added turned) → LeadsTree t used to (swapped t old added turned)
+  swapped_leads closes = record {
+    is_tree = swapped_is_tree;
+    none_there = others_stay to (λ e. may.not_destination (sym e)) (λ e. may.from (inl (sym e))) ∙ x.none_there;
     leads = λ s settled.
         let on : LeadsFrom t (swapped t old added turned) to s = leads_new s settled in
         subst (λ cs. LeadsAlong t s cs to) (sym (goes_walk_of t (swapped t old added turned) s on.0 whole on.1)) on.2;
-    closes_none = allowed.closes_none;
+    closes_none = closes;
   }
 
 pub swaps_leads : (t : Topology) (used : ℕ → ℕ → Type 0) (to : ℕ) (old new : List (Option ℕ)) → IsWellFormed t → LeadsTree t used to old → Swaps t used to old new → LeadsTree t used to new
-swaps_leads t used to old new good x step = subst (LeadsTree t used to) (sym step.changed) (swapped_leads t used to old step.added step.turned good x step.allowed)
+swaps_leads t used to old new good x step = subst (LeadsTree t used to) (sym step.changed) (swapped_leads t used to old step.added step.turned good x (may_turn t used to old step.added step.turned step.allowed) step.allowed.closes_none)
 
 pub swapping_leads : SwappingLeads
 swapping_leads t used to old new good x step = search_tree t used to new (swaps_leads t (IsListed used) to old new good (leads_tree t used to old x) step)

@@ -13,7 +13,7 @@ loop-s-preserved c =
           ∙ none_more c.loop-s.tree n (omega (arith, whole, c.loop-s-test.true, c.switches-s-end.ensures.count)) c.loop-s.invariant.none i h;
     }
 
-pub returns : goal.returns
-returns c =
+pub returns-clause-empty : goal.returns-clause-empty
+returns-clause-empty c =
     none_left c.args.fabric.now c.loop-s.tree c.loop-s.invariant.whole
     (λ i h. c.loop-s.invariant.none i (omega (arith, h, c.loop-s-test.false, c.switches-s-end.ensures.count)))

@@ -9,8 +9,10 @@ use Rattle.fab_sssp.proofs.Raising.WeightBounds.{weight_within}
 use Rattle.fab_depgraph.specs.Listed.{Dependencies}
 use Rattle.fab_nue.specs.Search.{tail, with_channel, IsSettled}
 use Rattle.fab_nue.specs.Offers.{Offers, LeadsInto, LeadElsewhere}
+use Rattle.fab_nue.specs.Laws.{settled_count}
 use Rattle.fab_nue.specs.UnderWay.{IsUnderWay, still_to_do}
 use Rattle.fab_nue.proofs.Searching.SearchTrees.{tail_below}
+use Rattle.fab_nue.proofs.Searching.Measure.{settle_adds_one}
 use Rattle.fab_nue.proofs.Searching.Adding.{tail_read}
 use Rattle.fab_nue.proofs.Heaps.UnderWay.{low, leads, spare_left, small, mid_once, elsewhere, passed_settled, passed_fewer, passed_closing, settled_on_way, settled_fewer}
 use Rattle.fab_nue.proofs.settling.settle_next.Goals as goal
@@ -140,3 +142,16 @@ returns-in-Yes-clause-fewer g c = λ e.
     c.offer.new.choices.entries (c.add_behind.ensures.added c.in-Yes.is) (c.add_behind.ensures.spare c.in-Yes.is) (c.add_behind.ensures.acyclic c.in-Yes.is)
     (subst (λ (x : List (Option ℕ)). Offers t c.args.to.0 x (λ d. W d + m.weight) (LeadsInto t (tail t m.channel.0)) c.pop.new.self.entries c.offer.new.choices.entries) (sym tree_is)
     (subst (λ s. Offers t c.args.to.0 c.set.new.self (λ d. W d + m.weight) (LeadsInto t s) c.pop.new.self.entries c.offer.new.choices.entries) (sym s_is) c.offer.ensures.offered)))
+
+pub returns-in-Yes-clause-grows : goal.returns-in-Yes-clause-grows
+returns-in-Yes-clause-grows g c =
+    let t = c.args.fabric.now in
+    let m = c.in-Some.field-0 in
+    let s_is = tail_read t m.channel.0 c.channel.result c.channel.ensures in
+    let tree_is : with_channel t c.args.tree.now m.channel.0 ≡ c.set.new.self = ap (λ k. slice_set c.args.tree.now k (Some m.channel.0)) s_is ∙ sym c.set.ensures in
+    let open_tail = is_open t c.args.to.0 c.args.tree.now m.channel.0 c.channel.result c.is_settled.result c.channel.ensures c.if-is_settled.false c.is_settled.ensures in
+    let lead = leads _ _ _ _ _ _ c.requires.fabric.rows _ _ _ c.in-Some.ensures c.requires.under_way.1 in
+    let within = low _ _ _ _ _ _ c.requires.fabric.rows _ _ _ c.in-Some.ensures c.requires.under_way.1 in
+    let counts : settled_count (with_channel t c.args.tree.now m.channel.0) ≡ settled_count c.args.tree.now + 1
+    = settle_adds_one t c.args.to.0 c.args.tree.now m.channel.0 c.requires.fabric.rows lead.is_tree.each_switch within open_tail in
+    omega (arith, counts, ap settled_count tree_is)

@@ -1,22 +1,11 @@
-//! Plans of Nue, and the lane in which each LID is laid.
+//! The lane in which each LID is laid. Constant time, no memory.
 //!
 //! Source: Domke, Hoefler and Matsuoka, "Routing on the Dependency Graph".
 ghost use Rattle.std.specs.Prelude.{◌≡◌, ◌<◌, ◌≤◌, Contains};
 ghost use Rattle.fab_model.specs.Topology.{lids_of};
 ghost use Rattle.fab_escape.specs.EscapeSet.{home as home_lane};
 
-use crate::lid_list::LidList;
-use fab_depgraph::Layers;
 use fab_model::{Fabric, Lid};
-use fab_tables::Plan;
-
-/// A plan of Nue, the LIDs that it kept of an old plan, and lane by lane the dependencies in use.
-#[derive(Drop)]
-pub struct Laid {
-    pub plan: Plan,
-    pub kept: LidList,
-    pub used: Layers,
-}
 
 /// The home lane of a LID: the index of its switch modulo the lane count.
 pub fn home(fabric: &Fabric, lid: Lid, lanes: u8) -> u8
