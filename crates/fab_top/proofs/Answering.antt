@@ -35,7 +35,7 @@ use Rattle.fab_top.proofs.Judging.{true_verdict, verdict_keeps, verdict_is_small
 use Rattle.fab_top.proofs.Loading.{load_keeps}
 use Rattle.fab_top.proofs.Laying.EngineAnswers.{one_route, route_keeps, route_is_small, route_exists, one_demo, demo_keeps, demo_is_small, demo_exists}
 use Rattle.fab_top.proofs.Showing.{one_show, show_keeps, show_is_small, show_exists}
-use Rattle.fab_top.proofs.SpelledCommands.{HasFittingRecipe, has_fitting_recipe}
+use Rattle.fab_top.proofs.SpelledCommands.{CanBeDone, can_be_done}
 
 -- ---- after a fabric and a plan of it
 
@@ -84,15 +84,15 @@ both_exist w fabric plan rest told exists =
 abbrev AnswersIt : Seen → Option Command → Answer → Type 0
 AnswersIt w command a = MatchOption command (a ≡ usage) (λ c. IsAnswerTo w c a)
 
--- ---- the recipe of a command
+-- ---- what a command asks for
 
-abbrev IfFitting : Option Command → Type 0
-IfFitting None = Unit {0}
-IfFitting (Some command) = HasFittingRecipe command
+abbrev IfDoable : Option Command → Type 0
+IfDoable None = Unit {0}
+IfDoable (Some command) = CanBeDone command
 
-if_fitting : (words : List (List ℕ)) (command : Option Command) → command_of words ≡ command → IfFitting command
-if_fitting words None e = tt
-if_fitting words (Some command) e = has_fitting_recipe words command e
+if_doable : (words : List (List ℕ)) (command : Option Command) → command_of words ≡ command → IfDoable command
+if_doable words None e = tt
+if_doable words (Some command) e = can_be_done words command e
 
 -- ---- one answer
 
@@ -106,27 +106,27 @@ one_certified t p a b fits first second =
     let same : first.0 ≡ second.0 = one_certificate t p first.0 second.0 fits first.1 second.1 in
     first.2 ∙ ap (certified_answer t p) same ∙ sym second.2
 
-one_answer_to : (w : Seen) (command : Option Command) (a b : Answer) → IfFitting command → AreTold w (option_map_or files_of command []) → AnswersIt w command a → AnswersIt w command b → a ≡ b
-one_answer_to w None a b fitting told first second = first ∙ sym second
-one_answer_to w (Some (Check fabric plan)) a b fitting told first second =
+one_answer_to : (w : Seen) (command : Option Command) (a b : Answer) → IfDoable command → AreTold w (option_map_or files_of command []) → AnswersIt w command a → AnswersIt w command b → a ≡ b
+one_answer_to w None a b doable told first second = first ∙ sym second
+one_answer_to w (Some (Check fabric plan)) a b doable told first second =
     both_one w fabric plan IsCheckAnswer a b told (λ t p read x y. one_check t p a b x y) first second
-one_answer_to w (Some (Route fabric engine)) a b fitting told first second =
+one_answer_to w (Some (Route fabric engine)) a b doable told first second =
     fabric_one w fabric (IsRouteAnswer engine) a b (first_told w fabric [] told) (λ t made x y. one_route engine t a b made x y) first second
-one_answer_to w (Some (Certify fabric plan)) a b fitting told first second =
+one_answer_to w (Some (Certify fabric plan)) a b doable told first second =
     both_one w fabric plan IsCertifyAnswer a b told (λ t p read x y. one_certified t p a b read.fits x y) first second
-one_answer_to w (Some (Convert fabric plan)) a b fitting told first second =
+one_answer_to w (Some (Convert fabric plan)) a b doable told first second =
     both_one w fabric plan IsPlanText a b told (λ t p read x y. x ∙ sym y) first second
-one_answer_to w (Some (Cut fabric failed)) a b fitting told first second =
+one_answer_to w (Some (Cut fabric failed)) a b doable told first second =
     one_cut w fabric failed (first_told w fabric (failed ∷ []) told) (second_told w fabric failed [] told) a b first second
-one_answer_to w (Some (Show fabric plan from to)) a b fitting told first second =
+one_answer_to w (Some (Show fabric plan from to)) a b doable told first second =
     both_one w fabric plan (IsShowAnswer from.0 to.0) a b told (λ t p read x y. one_show t p from.0 to.0 a b x y) first second
-one_answer_to w (Some (Load fabric plan)) a b fitting told first second =
+one_answer_to w (Some (Load fabric plan)) a b doable told first second =
     both_one w fabric plan IsLoadAnswer a b told (λ t p read x y. x ∙ sym y) first second
-one_answer_to w (Some (Gen recipe)) a b fitting told first second = first ∙ sym second
-one_answer_to w (Some (Demo recipe engine)) a b fitting told first second = one_demo engine (generated recipe) a b (fitting_is_fabric recipe fitting) first second
+one_answer_to w (Some (Gen recipe)) a b doable told first second = first ∙ sym second
+one_answer_to w (Some (Demo recipe engine)) a b doable told first second = one_demo engine (generated recipe) a b (fitting_is_fabric recipe doable.recipe) first second
 
 pub one_answer : OneAnswer
-one_answer w a b told first second = one_answer_to w (command_of w.words) a b (if_fitting w.words (command_of w.words) refl) told first second
+one_answer w a b told first second = one_answer_to w (command_of w.words) a b (if_doable w.words (command_of w.words) refl) told first second
 
 -- ---- promises
 
@@ -139,20 +139,20 @@ certify_keeps t p a read is = certificate_keeps t p is.0 a read.fabric read.fits
 convert_keeps : (t : Topology) (p : Plan) (a : Answer) → IsReadPlan t p → IsPlanText t p a → ConvertsTruly t p a
 convert_keeps t p a read is = plan_keeps t p a read.fabric read.fits read.tidy is
 
-keeps_by : (w : Seen) (command : Option Command) (a : Answer) → IfFitting command → AnswersIt w command a → MatchOption command (Unit {0}) (λ c. KeepsHeadlineOf w c a)
-keeps_by w None a fitting is = tt
-keeps_by w (Some (Check fabric plan)) a fitting is = both_weaker w fabric plan IsCheckAnswer ChecksTruly a (λ t p read x. check_keeps t p a read x) is
-keeps_by w (Some (Route fabric engine)) a fitting is = fabric_weaker w fabric (IsRouteAnswer engine) (RoutesTruly engine) a (λ t made x. route_keeps engine t a made x) is
-keeps_by w (Some (Certify fabric plan)) a fitting is = both_weaker w fabric plan IsCertifyAnswer CertifiesTruly a (λ t p read x. certify_keeps t p a read x) is
-keeps_by w (Some (Convert fabric plan)) a fitting is = both_weaker w fabric plan IsPlanText ConvertsTruly a (λ t p read x. convert_keeps t p a read x) is
-keeps_by w (Some (Cut fabric failed)) a fitting is = cut_keeps w fabric failed a is
-keeps_by w (Some (Show fabric plan from to)) a fitting is = both_weaker w fabric plan (IsShowAnswer from.0 to.0) (ShowsTruly from.0 to.0) a (λ t p read x. show_keeps t p from.0 to.0 a x) is
-keeps_by w (Some (Load fabric plan)) a fitting is = both_weaker w fabric plan IsLoadAnswer IsDone a (λ t p read x. load_keeps t p a x) is
-keeps_by w (Some (Gen recipe)) a fitting is = generates_truly recipe a fitting is
-keeps_by w (Some (Demo recipe engine)) a fitting is = demo_keeps engine (generated recipe) a (fitting_is_fabric recipe fitting) is
+keeps_by : (w : Seen) (command : Option Command) (a : Answer) → IfDoable command → AnswersIt w command a → MatchOption command (Unit {0}) (λ c. KeepsHeadlineOf w c a)
+keeps_by w None a doable is = tt
+keeps_by w (Some (Check fabric plan)) a doable is = both_weaker w fabric plan IsCheckAnswer ChecksTruly a (λ t p read x. check_keeps t p a read x) is
+keeps_by w (Some (Route fabric engine)) a doable is = fabric_weaker w fabric (IsRouteAnswer engine) (RoutesTruly engine) a (λ t made x. route_keeps engine t a made x) is
+keeps_by w (Some (Certify fabric plan)) a doable is = both_weaker w fabric plan IsCertifyAnswer CertifiesTruly a (λ t p read x. certify_keeps t p a read x) is
+keeps_by w (Some (Convert fabric plan)) a doable is = both_weaker w fabric plan IsPlanText ConvertsTruly a (λ t p read x. convert_keeps t p a read x) is
+keeps_by w (Some (Cut fabric failed)) a doable is = cut_keeps w fabric failed a is
+keeps_by w (Some (Show fabric plan from to)) a doable is = both_weaker w fabric plan (IsShowAnswer from.0 to.0) (ShowsTruly from.0 to.0) a (λ t p read x. show_keeps t p from.0 to.0 a x) is
+keeps_by w (Some (Load fabric plan)) a doable is = both_weaker w fabric plan IsLoadAnswer IsDone a (λ t p read x. load_keeps t p a x) is
+keeps_by w (Some (Gen recipe)) a doable is = generates_truly recipe a doable.recipe is
+keeps_by w (Some (Demo recipe engine)) a doable is = demo_keeps engine (generated recipe) a (fitting_is_fabric recipe doable.recipe) is
 
 pub answers_keep_headline : AnswersKeepHeadline
-answers_keep_headline w a is = keeps_by w (command_of w.words) a (if_fitting w.words (command_of w.words) refl) is
+answers_keep_headline w a is = keeps_by w (command_of w.words) a (if_doable w.words (command_of w.words) refl) is
 
 -- ---- statuses
 
@@ -190,17 +190,17 @@ exists_check t p read = let v : (v : Verdict) × IsVerdict t p.tables p.lanes v 
 exists_certify : (t : Topology) (p : Plan) → IsReadPlan t p → HasRightAnswer (IsCertifyAnswer t p)
 exists_certify t p read = let c : (c : Certified) × IsCertificate t p c = certificate_exists t p read.fabric read.fits in (certified_answer t p c.0, (c.0, c.1, refl))
 
-exists_by : (w : Seen) (command : Option Command) → IfFitting command → AreTold w (option_map_or files_of command []) → HasRightAnswer (AnswersIt w command)
-exists_by w None fitting told = (usage, refl)
-exists_by w (Some (Check fabric plan)) fitting told = both_exist w fabric plan IsCheckAnswer told exists_check
-exists_by w (Some (Route fabric engine)) fitting told = fabric_exists w fabric (IsRouteAnswer engine) (first_told w fabric [] told) (λ t made. route_exists engine t made)
-exists_by w (Some (Certify fabric plan)) fitting told = both_exist w fabric plan IsCertifyAnswer told exists_certify
-exists_by w (Some (Convert fabric plan)) fitting told = both_exist w fabric plan IsPlanText told (λ t p read. (done (plan_text t p), refl))
-exists_by w (Some (Cut fabric failed)) fitting told = cut_exists w fabric failed (first_told w fabric (failed ∷ []) told) (second_told w fabric failed [] told)
-exists_by w (Some (Show fabric plan from to)) fitting told = both_exist w fabric plan (IsShowAnswer from.0 to.0) told (λ t p read. show_exists t p from.0 to.0)
-exists_by w (Some (Load fabric plan)) fitting told = both_exist w fabric plan IsLoadAnswer told (λ t p read. (done (load_text t (loads_of t p.tables)), refl))
-exists_by w (Some (Gen recipe)) fitting told = (done (text_of (generated recipe)), refl)
-exists_by w (Some (Demo recipe engine)) fitting told = demo_exists engine (generated recipe) (fitting_is_fabric recipe fitting)
+exists_by : (w : Seen) (command : Option Command) → IfDoable command → AreTold w (option_map_or files_of command []) → HasRightAnswer (AnswersIt w command)
+exists_by w None doable told = (usage, refl)
+exists_by w (Some (Check fabric plan)) doable told = both_exist w fabric plan IsCheckAnswer told exists_check
+exists_by w (Some (Route fabric engine)) doable told = fabric_exists w fabric (IsRouteAnswer engine) (first_told w fabric [] told) (λ t made. route_exists engine t made doable.lanes)
+exists_by w (Some (Certify fabric plan)) doable told = both_exist w fabric plan IsCertifyAnswer told exists_certify
+exists_by w (Some (Convert fabric plan)) doable told = both_exist w fabric plan IsPlanText told (λ t p read. (done (plan_text t p), refl))
+exists_by w (Some (Cut fabric failed)) doable told = cut_exists w fabric failed (first_told w fabric (failed ∷ []) told) (second_told w fabric failed [] told)
+exists_by w (Some (Show fabric plan from to)) doable told = both_exist w fabric plan (IsShowAnswer from.0 to.0) told (λ t p read. show_exists t p from.0 to.0)
+exists_by w (Some (Load fabric plan)) doable told = both_exist w fabric plan IsLoadAnswer told (λ t p read. (done (load_text t (loads_of t p.tables)), refl))
+exists_by w (Some (Gen recipe)) doable told = (done (text_of (generated recipe)), refl)
+exists_by w (Some (Demo recipe engine)) doable told = demo_exists engine (generated recipe) (fitting_is_fabric recipe doable.recipe) doable.lanes
 
 pub answer_exists : AnswerExists
-answer_exists w told = exists_by w (command_of w.words) (if_fitting w.words (command_of w.words) refl) told
+answer_exists w told = exists_by w (command_of w.words) (if_doable w.words (command_of w.words) refl) told

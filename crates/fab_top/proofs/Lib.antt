@@ -6,6 +6,7 @@ pub mod Judging
 pub mod Certifying
 pub mod LowNumbers
 pub mod Wording
+pub mod AskedLanes
 pub mod SpelledCommands
 pub mod ReadFits
 pub mod Generating

@@ -1,4 +1,5 @@
--- What is known of a command that words spell: its files are named by places among the words, and its recipe fits.
+-- What is known of a command that words spell: its files are named by places among the words, its recipe fits, and its lane count is
+-- 1 to 15.
 use Rattle.std.proofs.Common.{◌≡◌, ℕ, suc, ◌<◌, ◌≤◌, ◌-◌, ◌^◌, ◌&&◌, Bool, true, false, List, [], ◌∷◌, length, Option, None, Some, String, refl, subst, arith}
 use Rattle.std.specs.Prelude.{option_map, option_and_then, find, if◌then◌else◌, IsTrue, IfSome}
 use Rattle.std.specs.Bool.{then_some}
@@ -9,11 +10,13 @@ use Rattle.fab_report.specs.declared.recipe.Recipe.{Recipe}
 use Rattle.fab_report.specs.Laws.{HasSeed}
 use Rattle.fab_report.specs.Recipes.{fits}
 use Rattle.fab_top.specs.declared.command.Engine.{Engine}
+use Rattle.fab_top.specs.Engines.{HasLaneCount}
 use Rattle.fab_top.specs.declared.command.Command.{Command}
 use Rattle.fab_top.specs.declared.command.Command.TheVariants.{Check, Route, Certify, Convert, Cut, Load, Gen, Demo}
 use Rattle.fab_top.specs.Ran.{files_of}
 use Rattle.fab_top.specs.Words.{texts, is_file, named, number_in, kinds, two_files, recipe_of, recipe_in, lid_in, show_from_to, show_words, gen_words, engine_in, asked_behind, asked_by, route_words, demo_words, commands, command_of}
 use Rattle.fab_top.proofs.LowNumbers.{number_is_low}
+use Rattle.fab_top.proofs.AskedLanes.{engine_after, asked_behind_rightly, asked_by_rightly}
 
 -- each place is below a number
 abbrev pub AllBelow : ℕ → List ℕ → Type 0
@@ -30,9 +33,20 @@ HasFittingRecipe (Gen recipe) = IsFitting recipe
 HasFittingRecipe (Demo recipe engine) = IsFitting recipe
 HasFittingRecipe _ = Unit {0}
 
+-- an engine that takes a lane count is asked for 1 to 15
+abbrev pub HasLanes : Command → Type 0
+HasLanes (Route fabric engine) = HasLaneCount engine
+HasLanes (Demo recipe engine) = HasLaneCount engine
+HasLanes _ = Unit {0}
+
+-- what the command asks for can be done
+pub record CanBeDone (command : Command) : Type 0 where
+  pub recipe : HasFittingRecipe command
+  pub lanes : HasLanes command
+
 pub record IsSpelledBy (count : ℕ) (command : Command) : Type 0 where
   pub places : AllBelow count (files_of command)
-  pub recipe : HasFittingRecipe command
+  pub asks : CanBeDone command
 
 -- what a form makes of the words behind the first
 abbrev SpellsRightly : (List (List ℕ) → Option Command) → Type 0
@@ -60,7 +74,7 @@ two_within make both (a ∷ b ∷ []) made e = made_if 3 (is_file a && is_file b
 two_within make both (a ∷ b ∷ c ∷ rest) made e = cc
 
 made_show : (from to : Option ℕ) (made : Command) → show_from_to from to ≡ Some made → IsSpelledBy 5 made
-made_show (Some from) (Some to) made e = made_as 5 _ made e (record { places = (omega arith, (omega arith, tt)); recipe = tt })
+made_show (Some from) (Some to) made e = made_as 5 _ made e (record { places = (omega arith, (omega arith, tt)); asks = record { recipe = tt; lanes = tt } })
 made_show (Some from) None made e = cc
 made_show None to made e = cc
 
@@ -105,7 +119,7 @@ spelled_recipe_fits kind a b seed =
 
 made_gen : (recipe : Option Recipe) (made : Command) → IfFitting recipe → option_map (λ r. Gen r) recipe ≡ Some made → IsSpelledBy 5 made
 made_gen None made fits e = cc
-made_gen (Some recipe) made fits e = made_as 5 (Gen recipe) made e (record { places = tt; recipe = fits })
+made_gen (Some recipe) made fits e = made_as 5 (Gen recipe) made e (record { places = tt; asks = record { recipe = fits; lanes = tt } })
 
 gen_within : SpellsRightly gen_words
 gen_within [] made e = cc
@@ -115,21 +129,21 @@ gen_within (a ∷ b ∷ c ∷ []) made e = cc
 gen_within (a ∷ b ∷ c ∷ d ∷ []) made e = made_gen (recipe_in a b c d) made (spelled_recipe_fits a b c d) e
 gen_within (a ∷ b ∷ c ∷ d ∷ x ∷ rest) made e = cc
 
-made_route : (n : ℕ) (engine : Option Engine) (made : Command) → 2 < n → option_map (λ x. Route 2 x) engine ≡ Some made → IsSpelledBy n made
-made_route n None made low e = cc
-made_route n (Some engine) made low e = made_as n (Route 2 engine) made e (record { places = (low, tt); recipe = tt })
+made_route : (n : ℕ) (engine : Option Engine) (made : Command) → 2 < n → IfSome engine HasLaneCount → option_map (λ x. Route 2 x) engine ≡ Some made → IsSpelledBy n made
+made_route n None made low lanes e = cc
+made_route n (Some engine) made low lanes e = made_as n (Route 2 engine) made e (record { places = (low, tt); asks = record { recipe = tt; lanes = lanes } })
 
 route_within : SpellsRightly route_words
 route_within [] made e = cc
 route_within (a ∷ []) made e = cc
 route_within (a ∷ b ∷ others) made e =
     let engine : Option Engine = option_and_then (engine_in a) (asked_behind others) in
-    made_route (suc (length (a ∷ b ∷ others))) engine made (omega arith) (made_when (is_file b) (option_map (λ x. Route 2 x) engine) made e)
+    made_route (suc (length (a ∷ b ∷ others))) engine made (omega arith) (engine_after a (asked_behind others) (asked_behind_rightly others)) (made_when (is_file b) (option_map (λ x. Route 2 x) engine) made e)
 
-made_demo : (recipe : Option Recipe) (engine : Option Engine) (made : Command) → IfFitting recipe → option_and_then (λ r. option_map (λ x. Demo r x) engine) recipe ≡ Some made → IsSpelledBy 7 made
-made_demo None engine made fits e = cc
-made_demo (Some recipe) None made fits e = cc
-made_demo (Some recipe) (Some engine) made fits e = made_as 7 (Demo recipe engine) made e (record { places = tt; recipe = fits })
+made_demo : (recipe : Option Recipe) (engine : Option Engine) (made : Command) → IfFitting recipe → IfSome engine HasLaneCount → option_and_then (λ r. option_map (λ x. Demo r x) engine) recipe ≡ Some made → IsSpelledBy 7 made
+made_demo None engine made fits lanes e = cc
+made_demo (Some recipe) None made fits lanes e = cc
+made_demo (Some recipe) (Some engine) made fits lanes e = made_as 7 (Demo recipe engine) made e (record { places = tt; asks = record { recipe = fits; lanes = lanes } })
 
 demo_within : SpellsRightly demo_words
 demo_within [] made e = cc
@@ -138,7 +152,7 @@ demo_within (a ∷ b ∷ []) made e = cc
 demo_within (a ∷ b ∷ c ∷ []) made e = cc
 demo_within (a ∷ b ∷ c ∷ d ∷ []) made e = cc
 demo_within (a ∷ b ∷ c ∷ d ∷ x ∷ []) made e = cc
-demo_within (a ∷ b ∷ c ∷ d ∷ x ∷ y ∷ []) made e = made_demo (recipe_in a b c d) (option_and_then (engine_in x) (asked_by y)) made (spelled_recipe_fits a b c d) e
+demo_within (a ∷ b ∷ c ∷ d ∷ x ∷ y ∷ []) made e = made_demo (recipe_in a b c d) (option_and_then (engine_in x) (asked_by y)) made (spelled_recipe_fits a b c d) (engine_after x (asked_by y) (asked_by_rightly y)) e
 demo_within (a ∷ b ∷ c ∷ d ∷ x ∷ y ∷ z ∷ rest) made e = cc
 
 -- ---- the table of the forms
@@ -166,19 +180,19 @@ both_places = (omega arith, (omega arith, tt))
 
 all_right : AllRight commands
 all_right = (
-  two_within (λ f p. Check f p) (record { places = both_places; recipe = tt }),
+  two_within (λ f p. Check f p) (record { places = both_places; asks = record { recipe = tt; lanes = tt } }),
   (
     route_within,
     (
-      two_within (λ f p. Certify f p) (record { places = both_places; recipe = tt }),
+      two_within (λ f p. Certify f p) (record { places = both_places; asks = record { recipe = tt; lanes = tt } }),
       (
-        two_within (λ f p. Convert f p) (record { places = both_places; recipe = tt }),
+        two_within (λ f p. Convert f p) (record { places = both_places; asks = record { recipe = tt; lanes = tt } }),
         (
-          two_within (λ f x. Cut f x) (record { places = both_places; recipe = tt }),
+          two_within (λ f x. Cut f x) (record { places = both_places; asks = record { recipe = tt; lanes = tt } }),
           (
             show_within,
             (
-              two_within (λ f p. Load f p) (record { places = both_places; recipe = tt }),
+              two_within (λ f p. Load f p) (record { places = both_places; asks = record { recipe = tt; lanes = tt } }),
               (gen_within, (demo_within, tt)),
             ),
           ),
@@ -192,8 +206,8 @@ spelled_right : (words : List (List ℕ)) (made : Command) → command_of words 
 spelled_right [] made e = cc
 spelled_right (word ∷ others) made e = by_row commands all_right word others made e
 
-pub has_fitting_recipe : (words : List (List ℕ)) (made : Command) → command_of words ≡ Some made → HasFittingRecipe made
-has_fitting_recipe words made e = (spelled_right words made e).recipe
+pub can_be_done : (words : List (List ℕ)) (made : Command) → command_of words ≡ Some made → CanBeDone made
+can_be_done words made e = (spelled_right words made e).asks
 
 -- said of the words themselves
 pub is_spelled : {Z : Type 0} (words : List (String Z)) (command made : Command) → command_of (texts words) ≡ Some command → command ≡ made → IsSpelledBy (length words) made

@@ -84,14 +84,26 @@ HasShortLanes _ = Unit {0}
 abbrev pub no_legal_route_text : Topology → ℕ → ℕ → List ℕ
 no_legal_route_text t from to = codes "no: no legal route from switch " ++ guid_text t from ++ codes " to switch " ++ guid_text t to ++ codes "\n"
 
+abbrev pub lane_for_pair_text : Topology → ℕ → ℕ → List ℕ
+lane_for_pair_text t low high = codes "no: another lane is needed for switches " ++ guid_text t low ++ codes " and " ++ guid_text t high ++ codes "\n"
+
 -- ---- rings
+
+-- the line of a channel on a lane
+abbrev pub on_lane_line : Topology → ℕ → ℕ → List ℕ
+on_lane_line t lane c = on_lane_text t c lane ++ codes "\n"
+
+-- what is said of a ring, with its length
+abbrev pub ring_front : List ℕ → List ℕ → List ℕ
+ring_front what ring = what ++ decimal (length ring) ++ codes "\n"
 
 -- the lines of a ring of virtual channels, whose numbers are channel times lane count plus lane
 abbrev pub ring_line : Topology → ℕ → ℕ → List ℕ
-ring_line t count node = on_lane_text t (node / count) (node % count) ++ codes "\n"
-
-abbrev pub ring_front : List ℕ → List ℕ
-ring_front ring = codes "no: ring of " ++ decimal (length ring) ++ codes "\n"
+ring_line t count node = on_lane_line t (node % count) (node / count)
 
 abbrev pub ring_text : Topology → ℕ → List ℕ → List ℕ
-ring_text t count ring = ring_front ring ++ flat_map (ring_line t count) ring
+ring_text t count ring = ring_front (codes "no: ring of ") ring ++ flat_map (ring_line t count) ring
+
+-- a ring of channels on one lane, which needs another
+abbrev pub lane_for_ring_text : Topology → ℕ → List ℕ → List ℕ
+lane_for_ring_text t lane ring = ring_front (codes "no: another lane is needed for a ring of ") ring ++ flat_map (on_lane_line t lane) ring

@@ -2,6 +2,7 @@
 --     check FABRIC PLAN
 --     route minhop|dor|sssp FABRIC
 --     route updn FABRIC, and then any number of --root GUID
+--     route lash|dfsssp FABRIC --lanes N
 --     certify FABRIC PLAN
 --     convert FABRIC PLAN
 --     cut FABRIC FAILED
@@ -11,7 +12,7 @@
 --     demo KIND A B SEED ENGINE N
 -- A file's word is not empty and does not begin with two dashes. A file is named by the place of its word. Numbers are
 -- decimal, without leading zeros. A LID is a decimal number, or `0x` and 1 to 4 hexadecimal digits. A GUID is `0x` and 1 to 16
--- hexadecimal digits. N is 0 for an engine that takes no lane count.
+-- hexadecimal digits. N is a lane count, 1 to 15, and 0 in a demonstration of an engine that takes none.
 use Rattle.std.specs.Prelude.{ℕ, ◌-◌, ◌^◌, Bool, false, ◌&&◌, not, List, [], ◌∷◌, length, map, Option, None, Some, option_map, option_and_then, find, nat_lt, ◌==◌, if◌then◌else◌, codes, String}
 use Rattle.std.specs.Bool.{then_some}
 use Rattle.std.specs.List.{starts_with}
@@ -65,12 +66,23 @@ rooted Nothing = Some (engine.Updn [])
 rooted (Roots guids) = Some (engine.Updn guids)
 rooted (Lanes count) = None
 
+-- the lane count that is asked for
+abbrev pub lanes_asked : Asked → Option ℕ
+lanes_asked Nothing = None
+lanes_asked (Roots guids) = None
+lanes_asked (Lanes count) = Some count
+
+abbrev pub laned : (ℕ → Engine) → Asked → Option Engine
+laned make asked = option_map make (lanes_asked asked)
+
 abbrev pub engine_forms : List (List ℕ × (Asked → Option Engine))
 engine_forms =
     (codes "minhop", bare engine.MinHop)
     ∷ (codes "dor", bare engine.Dor)
     ∷ (codes "sssp", bare engine.Sssp)
     ∷ (codes "updn", rooted)
+    ∷ (codes "lash", laned engine.Lash)
+    ∷ (codes "dfsssp", laned engine.Dfsssp)
     ∷ []
 
 abbrev pub engine_in : List ℕ → Asked → Option Engine

@@ -16,6 +16,10 @@ pub enum Engine {
     Sssp,
     /// Routes that go up to a root and then down, with the GUIDs of the roots.
     Updn(GuidList),
+    /// DOR's routes, and each pair of switches in the first lane in which it closes no walk, on so many lanes, 1 to 15.
+    Lash(u8),
+    /// Walks of least weight, whose rings are broken by moving routes to the next lane, on so many lanes, 1 to 15.
+    Dfsssp(u8),
 }
 
 /// What the words ask for. A file is named by the place of its word in the list of words, from 0.

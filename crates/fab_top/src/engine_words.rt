@@ -1,9 +1,9 @@
-//! The words of engines: `route ENGINE FABRIC`, behind which roots may be named, and `demo KIND A B SEED ENGINE N`. An
-//! engine is found by its name and by what it is asked for, in time that the length of the words gives. Memory is taken
-//! for the roots alone.
+//! The words of engines: `route ENGINE FABRIC`, behind which roots or a lane count may stand, and `demo KIND A B SEED
+//! ENGINE N`. An engine is found by its name and by what it is asked for, in time that the length of the words gives.
+//! Memory is taken for the roots alone.
 ghost use Rattle.std.specs.Prelude.{◌≡◌, IfOk};
 ghost use Rattle.fab_text.specs.Fields.{hex};
-ghost use Rattle.fab_top.specs.Words.{texts, bare, rooted, engine_in, lanes_in, roots_in, asked_behind, asked_by, route_words, demo_words};
+ghost use Rattle.fab_top.specs.Words.{texts, bare, rooted, lanes_asked, engine_in, lanes_in, roots_in, asked_behind, asked_by, route_words, demo_words};
 
 use crate::command::{Command, Engine};
 use crate::guid_list::GuidList;
@@ -42,6 +42,16 @@ fn rooted(alloc: Global, asked: Asked) -> Option<Engine>
     }
 }
 
+/// The lane count that is asked for.
+fn lanes_asked(asked: Asked) -> Option<u8>
+    ensures { result ≡ lanes_asked asked }
+{
+    match asked {
+        Asked::Lanes(count) => Some(count),
+        Asked::Nothing | Asked::Roots(_) => None,
+    }
+}
+
 /// The engine of this name, if it takes what is asked for.
 fn engine_in(alloc: Global, name: &str, asked: Asked) -> Option<Engine>
     ensures { result ≡ engine_in name.now asked }
@@ -51,6 +61,8 @@ fn engine_in(alloc: Global, name: &str, asked: Asked) -> Option<Engine>
         "dor" => bare(Engine::Dor, asked),
         "sssp" => bare(Engine::Sssp, asked),
         "updn" => rooted(alloc, asked),
+        "lash" => Some(Engine::Lash(lanes_asked(asked)?)),
+        "dfsssp" => Some(Engine::Dfsssp(lanes_asked(asked)?)),
         _ => None,
     }
 }

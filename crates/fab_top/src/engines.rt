@@ -1,9 +1,11 @@
 //! The engines: what each of them lays for a fabric. The time and memory are those of the engine's crate.
 ghost use Rattle.std.specs.Prelude.{◌≡◌, None};
 ghost use Rattle.fab_top.specs.declared.engines.EngineAnswer.TheVariants as engine_answer;
+ghost use Rattle.fab_top.specs.Engines.{HasLaneCount};
 ghost use Rattle.fab_top.specs.Outcomes.{LaysRightly};
 
 use crate::command::Engine;
+use crate::laned::{layered, rings_broken};
 use crate::outcome::Stop;
 use crate::up_down::up_down;
 use fab_balance::{dor, minhop};
@@ -34,6 +36,7 @@ fn without_lanes(tables: Tables) -> EngineAnswer
 
 /// What an engine makes of a fabric.
 pub(crate) fn laid(alloc: Global, fabric: &Fabric, engine: Engine) -> Result<EngineAnswer, Stop>
+    requires { HasLaneCount engine }
     ensures { LaysRightly fabric.now engine result }
 {
     match engine {
@@ -47,5 +50,7 @@ pub(crate) fn laid(alloc: Global, fabric: &Fabric, engine: Engine) -> Result<Eng
         }
         Engine::Sssp => Ok(without_lanes(sssp(alloc, fabric)?)),
         Engine::Updn(roots) => up_down(alloc, fabric, roots.guids()),
+        Engine::Lash(lanes) => layered(alloc, fabric, lanes),
+        Engine::Dfsssp(lanes) => rings_broken(alloc, fabric, lanes),
     }
 }

@@ -25,6 +25,7 @@ impl GuidList {
         GuidList { named }
     }
 
+    /// The GUIDs, in the order in which they were named.
     pub fn guids(&self) -> &[u64]
         ensures { result.now ≡ self.now }
     {

@@ -8,6 +8,7 @@ mod engines;
 mod fault_texts;
 mod files;
 mod guid_list;
+mod laned;
 mod laws;
 mod outcome;
 mod outputs;

@@ -4,6 +4,7 @@ ghost use Rattle.std.specs.Prelude.{◌<◌, length, IfOk, IsTrue};
 ghost use Rattle.fab_model.specs.WellFormed.{IsFabric};
 ghost use Rattle.fab_report.specs.Recipes.{fits, generated};
 ghost use Rattle.fab_tables.specs.Fit.{PlanFits};
+ghost use Rattle.fab_top.specs.Engines.{HasLaneCount};
 ghost use Rattle.fab_top.specs.Words.{texts};
 ghost use Rattle.fab_top.specs.Outcomes.{Obeys, FindsRightly, CanBePut, answer_of};
 ghost use Rattle.fab_top.specs.Answers.{IsRouteAnswer, IsDemoAnswer, IsSummary};
@@ -25,7 +26,8 @@ use std::alloc::{AllocError, Global};
 
 /// An engine's plan for a fabric, to be written, or its refusal.
 fn routed(alloc: Global, fabric: Fabric, engine: Engine) -> Result<Outcome, Stop>
-    requires { IsFabric fabric }
+    requires fabric { IsFabric fabric }
+    requires lanes { HasLaneCount engine }
     ensures { FindsRightly (IsRouteAnswer engine fabric) (RoutesTruly engine fabric) result }
 {
     match laid(alloc, &fabric, engine)? {
@@ -46,7 +48,8 @@ pub(crate) fn route<F: Shelf>(
     fabric: usize,
     engine: Engine,
 ) -> Result<Outcome, Stop>
-    requires { fabric < length words.now }
+    requires fabric { fabric < length words.now }
+    requires lanes { HasLaneCount engine }
     ensures { Obeys (asked.Route fabric engine) (texts words.now) (F.told shelf.old) (F.faults shelf.old) (F.faults shelf.new) result }
 {
     let fabric = take_fabric(alloc, words, shelf, fabric)?;
@@ -70,7 +73,8 @@ fn counted(alloc: Global, fabric: &Fabric, plan: &Plan) -> Result<Outcome, Alloc
 
 /// The counts and the verdict of an engine's plan for a fabric, or its refusal.
 fn shown_off(alloc: Global, fabric: &Fabric, engine: Engine) -> Result<Outcome, Stop>
-    requires { IsFabric fabric.now }
+    requires fabric { IsFabric fabric.now }
+    requires lanes { HasLaneCount engine }
     ensures { FindsRightly (IsDemoAnswer engine fabric.now) (ShowsOff engine fabric.now) result }
 {
     match laid(alloc, fabric, engine)? {
@@ -84,7 +88,8 @@ fn shown_off(alloc: Global, fabric: &Fabric, engine: Engine) -> Result<Outcome, 
 
 /// The counts and the verdict of an engine's plan for the fabric of a recipe that fits.
 pub(crate) fn demo(alloc: Global, recipe: Recipe, engine: Engine) -> Result<Outcome, Stop>
-    requires { IsTrue (fits recipe) }
+    requires fits { IsTrue (fits recipe) }
+    requires lanes { HasLaneCount engine }
     ensures { FindsRightly (IsDemoAnswer engine (generated recipe)) (ShowsOff engine (generated recipe)) result }
 {
     let fabric = fabric_of(alloc, &recipe)?;

@@ -139,23 +139,29 @@ fn a_fabric_without_failed_cables_is_as_it_was(rt: HostRuntime) -> Result<(), Fa
     Ok(())
 }
 
+/// The verdict on the plan that these words write.
+fn verdict_on_plan(alloc: Global, line: &[&str]) -> Result<MemorySink, Fail> {
+    let mut shelf = shelf_of_line(alloc)?;
+    let mut plan = MemorySink::new(alloc);
+    let mut verdict = MemorySink::new(alloc);
+    status(alloc, &mut shelf, &mut plan, line)?;
+    shelf.add("P", plan.bytes())?;
+    status(alloc, &mut shelf, &mut verdict, &["check", "LINE", "P"])?;
+    Ok(verdict)
+}
+
 #[test]
 fn what_is_routed_is_good(rt: HostRuntime) -> Result<(), Fail> {
     let alloc = rt.alloc();
     for engine in ["minhop", "dor", "sssp"] {
-        let mut shelf = shelf_of_line(alloc)?;
-        let mut plan = MemorySink::new(alloc);
-        let mut verdict = MemorySink::new(alloc);
-        assert_eq!(rt;
-            status(alloc, &mut shelf, &mut plan, &["route", engine, "LINE"])?,
-            0
-        );
-        shelf.add("P", plan.bytes())?;
-        assert_eq!(rt;
-            status(alloc, &mut shelf, &mut verdict, &["check", "LINE", "P"])?,
-            0
-        );
+        let verdict = verdict_on_plan(alloc, &["route", engine, "LINE"])?;
         assert_eq!(rt; verdict.bytes(), b"ok: routes\n".as_slice());
+    }
+    let verdict = verdict_on_plan(alloc, &["route", "updn", "LINE", "--root", "0x11"])?;
+    assert_eq!(rt; verdict.bytes(), b"ok: routes and lanes\n".as_slice());
+    for engine in ["lash", "dfsssp"] {
+        let verdict = verdict_on_plan(alloc, &["route", engine, "LINE", "--lanes", "1"])?;
+        assert_eq!(rt; verdict.bytes(), b"ok: routes and lanes\n".as_slice());
     }
     Ok(())
 }

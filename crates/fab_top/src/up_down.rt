@@ -2,7 +2,6 @@
 //! root takes time in the logarithm of the switches; the rest is the time and memory of hop counts and of the engine.
 ghost use Rattle.std.specs.Prelude.{◌≡◌, ◌<◌, length, map, All, IfOk};
 ghost use Rattle.fab_model.specs.declared.rows.SwitchId.{SwitchId as Switch};
-ghost use Rattle.fab_top.specs.Engines.{LaysUpDown};
 ghost use Rattle.fab_top.specs.Files.{roots_from};
 ghost use Rattle.fab_top.specs.Outcomes.{LaysUpDownRightly};
 ghost use Rattle.fab_top.specs.Taking.{IsTaken, viewed};

@@ -3,7 +3,7 @@ use Rattle.std.proofs.Common.{◌≡◌, [], ◌∷◌, codes, refl}
 use Rattle.std.specs.Prelude.{None, Some}
 use Rattle.fab_report.specs.declared.recipe.Kind.TheVariants.{Tree}
 use Rattle.fab_top.specs.declared.command.Command.TheVariants.{Route, Demo}
-use Rattle.fab_top.specs.declared.command.Engine.TheVariants.{MinHop, Dor, Sssp, Updn}
+use Rattle.fab_top.specs.declared.command.Engine.TheVariants.{MinHop, Dor, Sssp, Updn, Lash, Dfsssp}
 use Rattle.fab_top.specs.Words.{command_of}
 
 route_dor : command_of (codes "route" ∷ codes "dor" ∷ codes "F" ∷ []) ≡ Some (Route 2 Dor)
@@ -30,6 +30,27 @@ no_root = refl
 updn_takes_no_lanes : command_of (codes "route" ∷ codes "updn" ∷ codes "F" ∷ codes "--lanes" ∷ codes "2" ∷ []) ≡ None
 updn_takes_no_lanes = refl
 
+route_lash : command_of (codes "route" ∷ codes "lash" ∷ codes "F" ∷ codes "--lanes" ∷ codes "15" ∷ []) ≡ Some (Route 2 (Lash 15))
+route_lash = refl
+
+route_dfsssp : command_of (codes "route" ∷ codes "dfsssp" ∷ codes "F" ∷ codes "--lanes" ∷ codes "1" ∷ []) ≡ Some (Route 2 (Dfsssp 1))
+route_dfsssp = refl
+
+lash_takes_lanes : command_of (codes "route" ∷ codes "lash" ∷ codes "F" ∷ []) ≡ None
+lash_takes_lanes = refl
+
+lash_takes_no_roots : command_of (codes "route" ∷ codes "lash" ∷ codes "F" ∷ codes "--root" ∷ codes "0x10" ∷ []) ≡ None
+lash_takes_no_roots = refl
+
+no_lanes : command_of (codes "route" ∷ codes "lash" ∷ codes "F" ∷ codes "--lanes" ∷ codes "0" ∷ []) ≡ None
+no_lanes = refl
+
+too_many_lanes : command_of (codes "route" ∷ codes "dfsssp" ∷ codes "F" ∷ codes "--lanes" ∷ codes "16" ∷ []) ≡ None
+too_many_lanes = refl
+
+lanes_with_leading_zero : command_of (codes "route" ∷ codes "dfsssp" ∷ codes "F" ∷ codes "--lanes" ∷ codes "01" ∷ []) ≡ None
+lanes_with_leading_zero = refl
+
 no_such_engine : command_of (codes "route" ∷ codes "ftree" ∷ codes "F" ∷ []) ≡ None
 no_such_engine = refl
 
@@ -54,3 +75,9 @@ recipe_too_small = refl
 
 demo_updn : command_of (codes "demo" ∷ codes "tree" ∷ codes "16" ∷ codes "8" ∷ codes "0" ∷ codes "updn" ∷ codes "0" ∷ []) ≡ Some (Demo (record { kind = Tree; a = 16; b = 8; seed = 0 }) (Updn []))
 demo_updn = refl
+
+demo_lash : command_of (codes "demo" ∷ codes "tree" ∷ codes "16" ∷ codes "8" ∷ codes "0" ∷ codes "lash" ∷ codes "2" ∷ []) ≡ Some (Demo (record { kind = Tree; a = 16; b = 8; seed = 0 }) (Lash 2))
+demo_lash = refl
+
+lash_takes_no_0 : command_of (codes "demo" ∷ codes "tree" ∷ codes "16" ∷ codes "8" ∷ codes "0" ∷ codes "lash" ∷ codes "0" ∷ []) ≡ None
+lash_takes_no_0 = refl

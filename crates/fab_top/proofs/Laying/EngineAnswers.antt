@@ -21,7 +21,7 @@ use Rattle.fab_top.specs.declared.outcome.Stop.{Stop}
 use Rattle.fab_top.specs.declared.outcome.Stop.TheVariants.{Refused, Unread, Memory}
 use Rattle.fab_top.specs.Answer.{Answer, done, no, refused}
 use Rattle.fab_top.specs.Answers.{AfterEngine, IsPlanText, IsSummary, IsRouteAnswer, IsDemoAnswer}
-use Rattle.fab_top.specs.Engines.{Lays, RefusesWith}
+use Rattle.fab_top.specs.Engines.{Lays, RefusesWith, HasLaneCount}
 use Rattle.fab_top.specs.Headline.{Done, IsGood, RoutesTruly, ShowsOff, ok_text}
 use Rattle.fab_top.specs.Outcomes.{IsRightOutcome, FindsRightly, LaysRightly, CanBePut, answer_of}
 use Rattle.fab_top.specs.ReportTexts.{summary_text}
@@ -52,8 +52,8 @@ small_after : (engine : Engine) (rest : Topology → Plan → Answer → Type 0)
 small_after engine rest t a small (inl x) = at_most_3 a.status (small x.0 x.2)
 small_after engine rest t a small (inr x) = (refusal_is t engine a x).status.0
 
-exists_after : (engine : Engine) (rest : Topology → Plan → Answer → Type 0) (t : Topology) → IsFabric t → ((p : Plan) → HasRightAnswer (rest t p)) → HasRightAnswer (AfterEngine engine rest t)
-exists_after engine rest t fabric exists = by (engine_answers t engine fabric)
+exists_after : (engine : Engine) (rest : Topology → Plan → Answer → Type 0) (t : Topology) → IsFabric t → HasLaneCount engine → ((p : Plan) → HasRightAnswer (rest t p)) → HasRightAnswer (AfterEngine engine rest t)
+exists_after engine rest t fabric lanes exists = by (engine_answers t engine fabric lanes)
   where
     by : ((p : Plan) × Lays t engine p) ⊎ ((a : Answer) × RefusesWith t engine a) → HasRightAnswer (AfterEngine engine rest t)
     by (inl x) = let a = exists x.0 in (a.0, inl (x.0, x.1, a.1))
@@ -102,8 +102,8 @@ route_keeps engine t a fabric (inr x) =
 pub route_is_small : (engine : Engine) (t : Topology) (a : Answer) → IsRouteAnswer engine t a → a.status ≤ 3
 route_is_small engine t a is = small_after engine IsPlanText t a (λ p x. plan_is_small t p a x) is
 
-pub route_exists : (engine : Engine) (t : Topology) → IsFabric t → HasRightAnswer (IsRouteAnswer engine t)
-route_exists engine t fabric = exists_after engine IsPlanText t fabric (λ p. (done (plan_text t p), refl))
+pub route_exists : (engine : Engine) (t : Topology) → IsFabric t → HasLaneCount engine → HasRightAnswer (IsRouteAnswer engine t)
+route_exists engine t fabric lanes = exists_after engine IsPlanText t fabric lanes (λ p. (done (plan_text t p), refl))
 
 -- an engine's plan that is to be written
 pub plan_found : (engine : Engine) (t : Topology) (p : Plan) (outcome : Outcome) → IsFabric t → Lays t engine p → answer_of outcome ≡ done (plan_text t p) → CanBePut outcome →
@@ -158,8 +158,8 @@ demo_keeps engine t a fabric (inr x) =
 pub demo_is_small : (engine : Engine) (t : Topology) (a : Answer) → IsDemoAnswer engine t a → a.status ≤ 3
 demo_is_small engine t a is = small_after engine IsSummary t a (λ p x. summary_is_small t p a x) is
 
-pub demo_exists : (engine : Engine) (t : Topology) → IsFabric t → HasRightAnswer (IsDemoAnswer engine t)
-demo_exists engine t fabric = exists_after engine IsSummary t fabric (λ p.
+pub demo_exists : (engine : Engine) (t : Topology) → IsFabric t → HasLaneCount engine → HasRightAnswer (IsDemoAnswer engine t)
+demo_exists engine t fabric lanes = exists_after engine IsSummary t fabric lanes (λ p.
     let v : (v : Verdict) × IsVerdict t p.tables p.lanes v = verdict_exists t p.tables p.lanes fabric in
     (done (summary_text (summary_of t p) ++ verdict_text t v.0), (v.0, v.1, refl)))
 

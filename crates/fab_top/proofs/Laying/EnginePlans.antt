@@ -1,10 +1,10 @@
 -- What holds of each engine: its plan for a fabric is in order, there is one such plan, or else one refusal.
-use Rattle.std.proofs.Common.{◌≡◌, ◌≢◌, ℕ, ◌<◌, ◌≤◌, ◌⊎◌, inl, inr, Bool, true, false, List, [], length, Option, Some, None, Result, Ok, Err, refl, sym, ◌∙◌, ap, subst, arith, All, IfSome}
+use Rattle.std.proofs.Common.{◌≡◌, ◌≢◌, ℕ, ◌-◌, ◌<◌, ◌≤◌, ◌⊎◌, inl, inr, Bool, true, false, List, [], length, Option, Some, None, Result, Ok, Err, refl, sym, ◌∙◌, ap, subst, arith, All, IfSome}
 use Rattle.std.specs.Prelude.{IsFalse}
 use Rattle.fab_model.specs.Topology.{Topology, is_source}
 use Rattle.fab_model.specs.WellFormed.{IsFabric}
 use Rattle.fab_tables.specs.declared.plan.Plan.{Plan}
-use Rattle.fab_tables.specs.Certified.{Reaches}
+use Rattle.fab_tables.specs.Certified.{Reaches, IsCertified}
 use Rattle.fab_tables.specs.Entries.{Entries}
 use Rattle.fab_tables.specs.Fit.{EntriesFit, LanesFit, PlanFits, IsTidy}
 use Rattle.fab_tables.specs.LaneTables.{LaneTables, level}
@@ -13,9 +13,9 @@ use Rattle.fab_balance.specs.MinHop.{AreMinHopTables, AreDorTables}
 use Rattle.fab_balance.proofs.OneTables.{one_min_hop_table, one_dor_table}
 use Rattle.fab_balance.proofs.Reaching.{nearer_reaches}
 use Rattle.fab_top.specs.declared.command.Engine.{Engine}
-use Rattle.fab_top.specs.declared.command.Engine.TheVariants.{MinHop, Dor, Sssp, Updn}
+use Rattle.fab_top.specs.declared.command.Engine.TheVariants.{MinHop, Dor, Sssp, Updn, Lash, Dfsssp}
 use Rattle.fab_top.specs.Answer.{Answer, no, refused}
-use Rattle.fab_top.specs.Engines.{Lays, RefusesWith, LaysUpDown, RefusesUpDown}
+use Rattle.fab_top.specs.Engines.{Lays, RefusesWith, LaysUpDown, RefusesUpDown, LaysLayers, RefusesPair, RefusesRing, IsLaneCount, HasLaneCount}
 use Rattle.fab_top.specs.Files.{roots_from}
 use Rattle.fab_top.specs.Headline.{Done, IsGood}
 use Rattle.fab_top.specs.Outcomes.{IsFound}
@@ -23,13 +23,26 @@ use Rattle.fab_balance.proofs.TablesExist.{min_hop_table_exists, dor_table_exist
 use Rattle.fab_sssp.proofs.Tables.OneTable.{one_least_weight_tables}
 use Rattle.fab_sssp.proofs.Tables.RoutesLeast.{least_weight_reaches}
 use Rattle.fab_sssp.proofs.Tables.TablesExist.{least_weight_tables_exist}
+use Rattle.fab_certify.specs.EnginePlans.{IsEnginePlan}
 use Rattle.fab_certify.proofs.Engines.EngineLanes.{engine_certified}
 use Rattle.fab_updn.specs.UpDownPlans.{IsUpDownPlan, IsRefusedPair}
 use Rattle.fab_updn.proofs.Reaching.{up_down_reaches}
 use Rattle.fab_updn.proofs.Refusals.{one_refused_pair, plan_or_refusal}
 use Rattle.fab_updn.proofs.OnePlan.{one_up_down_plan}
 use Rattle.fab_updn.proofs.Exists.Plans.{plan_or_refusal_exists}
-use Rattle.fab_top.specs.Texts.{no_legal_route_text}
+use Rattle.fab_lash.specs.Layered.{IsLayerLevel}
+use Rattle.fab_lash.specs.Layerings as layers
+use Rattle.fab_lash.specs.Laws.{HasLayeredPlan, HasLayeredRefusal}
+use Rattle.fab_lash.proofs.OneLayering as layering
+use Rattle.fab_lash.proofs.Exists.Plans.{layered_plan_or_refusal_exists}
+use Rattle.fab_lash.proofs.LayeredPlans.{layered_is_certified, one_layered_plan}
+use Rattle.fab_dfsssp.specs.Breaking as rings
+use Rattle.fab_dfsssp.specs.DfssspPlans.{IsDfssspPlan, IsDfssspFault}
+use Rattle.fab_dfsssp.specs.declared.breaking.BreakFault.TheVariants as fault
+use Rattle.fab_dfsssp.proofs.Exists.Plans.{dfsssp_plan_or_refusal_exists}
+use Rattle.fab_dfsssp.proofs.Plans.{dfsssp_is_certified, one_dfsssp_plan}
+use Rattle.fab_dfsssp.proofs.Steps as breaking
+use Rattle.fab_top.specs.Texts.{no_legal_route_text, lane_for_pair_text, lane_for_ring_text}
 use Rattle.fab_top.proofs.Laying.Roots.{are_within}
 
 -- ---- plans without lanes
@@ -65,10 +78,10 @@ min_hop_nearer t e are = record { fixed = are.fixed; chosen = λ s lid to is. (a
 dor_nearer : (t : Topology) (e : Entries) → AreDorTables t e → AreNearerTables t e
 dor_nearer t e are = record { fixed = are.fixed; chosen = λ s lid to is. (are.chosen s lid to is).holds }
 
--- ---- up/down routing
+-- ---- plans with lanes
 
-has_lanes : (t : Topology) (l : LaneTables) (o : Option LaneTables) → o ≡ Some l → LanesFit t l → ((s lid : ℕ) → IsFalse (is_source t s) → level l s lid ≡ None) → IfSome o (LanesFit t) × IfSome o (λ k. (s lid : ℕ) → IsFalse (is_source t s) → level k s lid ≡ None)
-has_lanes t l o e fits tidy =
+lanes_known : (t : Topology) (l : LaneTables) (o : Option LaneTables) → o ≡ Some l → LanesFit t l → ((s lid : ℕ) → IsFalse (is_source t s) → level l s lid ≡ None) → IfSome o (LanesFit t) × IfSome o (λ k. (s lid : ℕ) → IsFalse (is_source t s) → level k s lid ≡ None)
+lanes_known t l o e fits tidy =
     let Fit : Option LaneTables → Type 0 = λ x. IfSome x (LanesFit t) in
     let Tidy : Option LaneTables → Type 0 = λ x. IfSome x (λ k. (s lid : ℕ) → IsFalse (is_source t s) → level k s lid ≡ None) in
     (subst Fit (sym e) fits, subst Tidy (sym e) tidy)
@@ -77,16 +90,23 @@ no_source : (b : Bool) → b ≡ false → ¬ (b ≡ true)
 no_source true e is = cc
 no_source false e is = cc
 
+engine_in_order : (t : Topology) (count : ℕ) (Given : ℕ → ℕ → ℕ → Type 0) (p : Plan) → EntriesFit t p.tables → IsEnginePlan t count Given p → IsCertified t p → IsInOrder t p
+engine_in_order t count Given p fit lanes certified =
+    let both = lanes_known t lanes.lanes p.lanes lanes.has_lanes lanes.fits (λ s lid none. lanes.levels.no_other s lid (λ x. no_source (is_source t s) none x.0)) in
+    record {
+      fits = record { tables = fit; lanes = both.0 };
+      tidy = both.1;
+      good = inr certified;
+    }
+
+-- ---- up/down routing
+
 up_down_in_order : (t : Topology) (roots : Result (List ℕ) (List ℕ)) (p : Plan) → IsFabric t → LaysUpDown t roots p → IsInOrder t p
 up_down_in_order t (Err reason) p fabric laid = absurd laid
 up_down_in_order t (Ok roots) p fabric laid =
     let reaches : Reaches t p.tables = up_down_reaches t laid.tables.ranks p.tables fabric.rows laid.tables.tables in
-    let both = has_lanes t laid.lanes.lanes p.lanes laid.lanes.has_lanes laid.lanes.fits (λ s lid none. laid.lanes.levels.no_other s lid (λ x. no_source (is_source t s) none x.0)) in
-    record {
-      fits = record { tables = laid.tables.tables.entries.fixed.fits; lanes = both.0 };
-      tidy = both.1;
-      good = inr (engine_certified t 1 (λ s lid n. n ≡ 0) p fabric.rows reaches (λ s lid n source connected zero. omega (arith, zero)) laid.lanes);
-    }
+    engine_in_order t 1 (λ s lid n. n ≡ 0) p laid.tables.tables.entries.fixed.fits laid.lanes
+    (engine_certified t 1 (λ s lid n. n ≡ 0) p fabric.rows reaches (λ s lid n source connected zero. omega (arith, zero)) laid.lanes)
 
 one_up_down : (t : Topology) (roots : Result (List ℕ) (List ℕ)) (p q : Plan) → IsFabric t → LaysUpDown t roots p → LaysUpDown t roots q → p ≡ q
 one_up_down t (Err reason) p q fabric first second = absurd first
@@ -111,6 +131,54 @@ up_down_answers t (Ok roots) fabric within = by (plan_or_refusal_exists t roots 
     by (inl x) = inl x
     by (inr x) = inr (no (no_legal_route_text t x.0 x.1), (x.0, x.1, x.2, refl))
 
+-- ---- layers
+
+layers_in_order : (t : Topology) (lanes : ℕ) (p : Plan) → IsFabric t → LaysLayers t lanes p → IsInOrder t p
+layers_in_order t lanes p fabric laid =
+    engine_in_order t lanes (λ s lid n. IsLayerLevel t laid.1.layer s lid n) p laid.1.tables.fixed.fits laid.1.lanes (layered_is_certified t lanes p laid.0 fabric.rows laid.1)
+
+one_pair : (t : Topology) (lanes : ℕ) (a b : Answer) → IsFabric t → RefusesPair t lanes a → RefusesPair t lanes b → a ≡ b
+one_pair t lanes a b fabric first second =
+    let tables : first.0 ≡ second.0 = one_dor_table t first.0 second.0 fabric.rows first.3 second.3 in
+    let same = layering.one_needs_lane t second.0 lanes first.1 first.2 second.1 second.2 (subst (λ e. layers.NeedsLane t e lanes first.1 first.2) tables first.4) second.4 in
+    first.5 ∙ ap (λ low. no (lane_for_pair_text t low first.2)) same.0 ∙ ap (λ high. no (lane_for_pair_text t second.1 high)) same.1 ∙ sym second.5
+
+layers_or_refused : (t : Topology) (lanes : ℕ) (p : Plan) (a : Answer) → IsFabric t → LaysLayers t lanes p → ¬ RefusesPair t lanes a
+layers_or_refused t lanes p a fabric laid refuses =
+    let tables : refuses.0 ≡ p.tables = one_dor_table t refuses.0 p.tables fabric.rows refuses.3 laid.1.tables in
+    layering.layered_or_refused t p.tables lanes refuses.1 refuses.2 laid.1.layer (subst (λ e. layers.NeedsLane t e lanes refuses.1 refuses.2) tables refuses.4) laid.1.layers
+
+layers_answer : (t : Topology) (lanes : ℕ) → IsFabric t → IsLaneCount lanes → ((p : Plan) × LaysLayers t lanes p) ⊎ ((a : Answer) × RefusesPair t lanes a)
+layers_answer t lanes fabric count = by (layered_plan_or_refusal_exists t lanes fabric count.0 count.1)
+  where
+    by : HasLayeredPlan t lanes ⊎ HasLayeredRefusal t lanes → ((p : Plan) × LaysLayers t lanes p) ⊎ ((a : Answer) × RefusesPair t lanes a)
+    by (inl x) = inl (x.0, (x.1, x.2))
+    by (inr x) = inr (no (lane_for_pair_text t x.0.0 x.1.0), (x.2.0, x.0.0, x.1.0, x.2.1, x.2.2, refl))
+
+-- ---- broken rings
+
+rings_in_order : (t : Topology) (lanes : ℕ) (p : Plan) → IsFabric t → IsDfssspPlan t lanes p → IsInOrder t p
+rings_in_order t lanes p fabric laid =
+    engine_in_order t lanes (λ s lid n. n ≡ laid.lane_of s lid) p laid.tables.fixed.fits laid.lanes (dfsssp_is_certified t lanes p fabric.rows laid)
+
+one_ring : (t : Topology) (lanes : ℕ) (a b : Answer) → IsFabric t → RefusesRing t lanes a → RefusesRing t lanes b → a ≡ b
+one_ring t lanes a b fabric first second =
+    let tables : first.0 ≡ second.0 = one_least_weight_tables t first.0 second.0 fabric.rows first.2 second.2 in
+    let same : first.1 ≡ second.1 = breaking.one_needs_lane t second.0 lanes first.1 second.1 (subst (λ e. rings.NeedsLane t e lanes first.1) tables first.3) second.3 in
+    first.4 ∙ ap (λ ring. no (lane_for_ring_text t (lanes - 1) ring)) same ∙ sym second.4
+
+rings_or_refused : (t : Topology) (lanes : ℕ) (p : Plan) (a : Answer) → IsFabric t → IsDfssspPlan t lanes p → ¬ RefusesRing t lanes a
+rings_or_refused t lanes p a fabric laid refuses =
+    let tables : refuses.0 ≡ p.tables = one_least_weight_tables t refuses.0 p.tables fabric.rows refuses.2 laid.tables in
+    breaking.broken_or_refused t p.tables lanes laid.lane_of refuses.1 laid.broken (subst (λ e. rings.NeedsLane t e lanes refuses.1) tables refuses.3)
+
+rings_answer : (t : Topology) (lanes : ℕ) → IsFabric t → IsLaneCount lanes → ((p : Plan) × IsDfssspPlan t lanes p) ⊎ ((a : Answer) × RefusesRing t lanes a)
+rings_answer t lanes fabric count = by (dfsssp_plan_or_refusal_exists t lanes fabric count)
+  where
+    by : ((p : Plan) × IsDfssspPlan t lanes p) ⊎ ((ring : List ℕ) × IsDfssspFault t lanes (fault.NeedsLane ring)) → ((p : Plan) × IsDfssspPlan t lanes p) ⊎ ((a : Answer) × RefusesRing t lanes a)
+    by (inl x) = inl x
+    by (inr x) = inr (no (lane_for_ring_text t (lanes - 1) x.0), (x.1.0, x.0, x.1.1, x.1.2, refl))
+
 -- ---- by engine
 
 pub laid_in_order : (t : Topology) (engine : Engine) (p : Plan) → IsFabric t → Lays t engine p → IsInOrder t p
@@ -118,24 +186,32 @@ laid_in_order t MinHop p fabric laid = without_lanes t p laid.0 laid.1.fixed.fit
 laid_in_order t Dor p fabric laid = without_lanes t p laid.0 laid.1.fixed.fits (nearer_reaches t p.tables fabric.rows (dor_nearer t p.tables laid.1))
 laid_in_order t Sssp p fabric laid = without_lanes t p laid.0 laid.1.fixed.fits (least_weight_reaches t p.tables fabric.rows laid.1)
 laid_in_order t (Updn guids) p fabric laid = up_down_in_order t (roots_from 0 t guids) p fabric laid
+laid_in_order t (Lash lanes) p fabric laid = layers_in_order t lanes p fabric laid
+laid_in_order t (Dfsssp lanes) p fabric laid = rings_in_order t lanes p fabric laid
 
 pub one_laid : (t : Topology) (engine : Engine) (p q : Plan) → IsFabric t → Lays t engine p → Lays t engine q → p ≡ q
 one_laid t MinHop p q fabric first second = same_plan p q (one_min_hop_table t p.tables q.tables fabric.rows first.1 second.1) first.0 second.0
 one_laid t Dor p q fabric first second = same_plan p q (one_dor_table t p.tables q.tables fabric.rows first.1 second.1) first.0 second.0
 one_laid t Sssp p q fabric first second = same_plan p q (one_least_weight_tables t p.tables q.tables fabric.rows first.1 second.1) first.0 second.0
 one_laid t (Updn guids) p q fabric first second = one_up_down t (roots_from 0 t guids) p q fabric first second
+one_laid t (Lash lanes) p q fabric first second = one_layered_plan t lanes p q first.0 second.0 fabric.rows first.1 second.1
+one_laid t (Dfsssp lanes) p q fabric first second = one_dfsssp_plan t lanes p q fabric.rows first second
 
 pub one_refusal : (t : Topology) (engine : Engine) (a b : Answer) → IsFabric t → RefusesWith t engine a → RefusesWith t engine b → a ≡ b
 one_refusal t MinHop a b fabric first second = absurd first
 one_refusal t Dor a b fabric first second = absurd first
 one_refusal t Sssp a b fabric first second = absurd first
 one_refusal t (Updn guids) a b fabric first second = one_up_down_refusal t (roots_from 0 t guids) a b first second
+one_refusal t (Lash lanes) a b fabric first second = one_pair t lanes a b fabric first second
+one_refusal t (Dfsssp lanes) a b fabric first second = one_ring t lanes a b fabric first second
 
 pub lays_or_refuses : (t : Topology) (engine : Engine) (p : Plan) (a : Answer) → IsFabric t → Lays t engine p → ¬ RefusesWith t engine a
 lays_or_refuses t MinHop p a fabric laid refuses = absurd refuses
 lays_or_refuses t Dor p a fabric laid refuses = absurd refuses
 lays_or_refuses t Sssp p a fabric laid refuses = absurd refuses
 lays_or_refuses t (Updn guids) p a fabric laid refuses = up_down_or_refused t (roots_from 0 t guids) p a laid refuses
+lays_or_refuses t (Lash lanes) p a fabric laid refuses = layers_or_refused t lanes p a fabric laid refuses
+lays_or_refuses t (Dfsssp lanes) p a fabric laid refuses = rings_or_refused t lanes p a fabric laid refuses
 
 -- what each refusal is
 pub record IsRefusal (a : Answer) : Type 0 where
@@ -158,10 +234,14 @@ refusal_is t MinHop a refuses = absurd refuses
 refusal_is t Dor a refuses = absurd refuses
 refusal_is t Sssp a refuses = absurd refuses
 refusal_is t (Updn guids) a refuses = up_down_refusal_is t (roots_from 0 t guids) a refuses
+refusal_is t (Lash lanes) a refuses = subst IsRefusal (sym refuses.5) (no_is_refusal (lane_for_pair_text t refuses.1 refuses.2))
+refusal_is t (Dfsssp lanes) a refuses = subst IsRefusal (sym refuses.4) (no_is_refusal (lane_for_ring_text t (lanes - 1) refuses.1))
 
-pub engine_answers : (t : Topology) (engine : Engine) → IsFabric t → ((p : Plan) × Lays t engine p) ⊎ ((a : Answer) × RefusesWith t engine a)
+pub engine_answers : (t : Topology) (engine : Engine) → IsFabric t → HasLaneCount engine → ((p : Plan) × Lays t engine p) ⊎ ((a : Answer) × RefusesWith t engine a)
 unfolding plan_of
-engine_answers t MinHop fabric = let made = min_hop_table_exists t fabric in inl (plan_of made.0, (refl, made.1))
-engine_answers t Dor fabric = let made = dor_table_exists t fabric in inl (plan_of made.0, (refl, made.1))
-engine_answers t Sssp fabric = let made = least_weight_tables_exist t fabric in inl (plan_of made.0, (refl, made.1))
-engine_answers t (Updn guids) fabric = up_down_answers t (roots_from 0 t guids) fabric (λ named e. are_within 0 t guids named e)
+engine_answers t MinHop fabric lanes = let made = min_hop_table_exists t fabric in inl (plan_of made.0, (refl, made.1))
+engine_answers t Dor fabric lanes = let made = dor_table_exists t fabric in inl (plan_of made.0, (refl, made.1))
+engine_answers t Sssp fabric lanes = let made = least_weight_tables_exist t fabric in inl (plan_of made.0, (refl, made.1))
+engine_answers t (Updn guids) fabric lanes = up_down_answers t (roots_from 0 t guids) fabric (λ named e. are_within 0 t guids named e)
+engine_answers t (Lash count) fabric lanes = layers_answer t count fabric lanes
+engine_answers t (Dfsssp count) fabric lanes = rings_answer t count fabric lanes

@@ -8,8 +8,11 @@ check-requires-clause-fabric g c = (is_spelled c.args.words.now _ _ c.requires c
 pub check-requires-clause-plan : goal.check-requires-clause-plan
 check-requires-clause-plan g c = (is_spelled c.args.words.now _ _ c.requires c.in-Check.is).places.1.0
 
-pub route-requires : goal.route-requires
-route-requires g c = (is_spelled c.args.words.now _ _ c.requires c.in-Route.is).places.0
+pub route-requires-clause-fabric : goal.route-requires-clause-fabric
+route-requires-clause-fabric g c = (is_spelled c.args.words.now _ _ c.requires c.in-Route.is).places.0
+
+pub route-requires-clause-lanes : goal.route-requires-clause-lanes
+route-requires-clause-lanes g c = (is_spelled c.args.words.now _ _ c.requires c.in-Route.is).asks.lanes
 
 pub certify-requires-clause-fabric : goal.certify-requires-clause-fabric
 certify-requires-clause-fabric g c = (is_spelled c.args.words.now _ _ c.requires c.in-Certify.is).places.0
@@ -42,10 +45,13 @@ pub load-requires-clause-plan : goal.load-requires-clause-plan
 load-requires-clause-plan g c = (is_spelled c.args.words.now _ _ c.requires c.in-Load.is).places.1.0
 
 pub generate-requires : goal.generate-requires
-generate-requires g c = (is_spelled c.args.words.now _ _ c.requires c.in-Gen.is).recipe.fits
+generate-requires g c = (is_spelled c.args.words.now _ _ c.requires c.in-Gen.is).asks.recipe.fits
 
-pub demo-requires : goal.demo-requires
-demo-requires g c = (is_spelled c.args.words.now _ _ c.requires c.in-Demo.is).recipe.fits
+pub demo-requires-clause-fits : goal.demo-requires-clause-fits
+demo-requires-clause-fits g c = (is_spelled c.args.words.now _ _ c.requires c.in-Demo.is).asks.recipe.fits
+
+pub demo-requires-clause-lanes : goal.demo-requires-clause-lanes
+demo-requires-clause-lanes g c = (is_spelled c.args.words.now _ _ c.requires c.in-Demo.is).asks.lanes
 
 pub returns-in-Gen : goal.returns-in-Gen
 returns-in-Gen g c = gen_obeyed c.args.command c.in-Gen.recipe _ _ _ _ c.in-Gen.is c.generate.ensures
