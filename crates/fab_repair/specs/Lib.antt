@@ -1,1 +1,4 @@
 pub mod FailedList
+pub mod Faults
+pub mod Repairs
+pub mod Laws
