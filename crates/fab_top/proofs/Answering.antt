@@ -18,7 +18,7 @@ use Rattle.fab_netdiscover.specs.Writing.{text_of}
 use Rattle.fab_report.specs.Loads.{loads_of}
 use Rattle.fab_report.specs.Recipes.{generated}
 use Rattle.fab_top.specs.declared.command.Command.{Command}
-use Rattle.fab_top.specs.declared.command.Command.TheVariants.{Check, Route, Certify, Convert, Cut, Show, Load, Gen, Demo}
+use Rattle.fab_top.specs.declared.command.Command.TheVariants.{Check, Route, Certify, Convert, Repair, Cut, Show, Load, Gen, Demo}
 use Rattle.fab_top.specs.Answer.{Answer, done}
 use Rattle.fab_top.specs.Answers.{IsAnswerTo, IsCheckAnswer, IsRouteAnswer, IsCertifyAnswer, IsPlanText, IsShowAnswer, IsLoadAnswer, verdict_answer, certified_answer, usage}
 use Rattle.fab_top.specs.Headline.{KeepsHeadlineOf, ChecksTruly, RoutesTruly, CertifiesTruly, ConvertsTruly, ShowsTruly, IsDone}
@@ -34,6 +34,7 @@ use Rattle.fab_top.proofs.Generating.{done_is_small, fitting_is_fabric, generate
 use Rattle.fab_top.proofs.Judging.{true_verdict, verdict_keeps, verdict_is_small}
 use Rattle.fab_top.proofs.Loading.{load_keeps}
 use Rattle.fab_top.proofs.Laying.EngineAnswers.{one_route, route_keeps, route_is_small, route_exists, one_demo, demo_keeps, demo_is_small, demo_exists}
+use Rattle.fab_top.proofs.Repairing.{repair_kept, one_repair, repair_is_small, repair_exists}
 use Rattle.fab_top.proofs.Showing.{one_show, show_keeps, show_is_small, show_exists}
 use Rattle.fab_top.proofs.SpelledCommands.{CanBeDone, can_be_done}
 
@@ -48,6 +49,9 @@ first_told w first others told = told first (grind arith)
 
 second_told : (w : Seen) (first second : ℕ) (others : List ℕ) → AreTold w (first ∷ second ∷ others) → IsTold (w.content second)
 second_told w first second others told = told second (grind arith)
+
+third_told : (w : Seen) (first second third : ℕ) → AreTold w (first ∷ second ∷ third ∷ []) → IsTold (w.content third)
+third_told w first second third told = told third (grind arith)
 
 both_weaker : (w : Seen) (fabric plan : ℕ) (rest other : Topology → Plan → Answer → Type 0) (a : Answer) → ((t : Topology) (p : Plan) → IsReadPlan t p → rest t p a → other t p a) →
     WithBoth w fabric plan rest a → WithBoth w fabric plan other a
@@ -116,6 +120,8 @@ one_answer_to w (Some (Certify fabric plan)) a b doable told first second =
     both_one w fabric plan IsCertifyAnswer a b told (λ t p read x y. one_certified t p a b read.fits x y) first second
 one_answer_to w (Some (Convert fabric plan)) a b doable told first second =
     both_one w fabric plan IsPlanText a b told (λ t p read x y. x ∙ sym y) first second
+one_answer_to w (Some (Repair fabric plan failed lanes)) a b doable told first second =
+    one_repair w fabric plan failed lanes (first_told w fabric (plan ∷ failed ∷ []) told) (second_told w fabric plan (failed ∷ []) told) (third_told w fabric plan failed told) a b first second
 one_answer_to w (Some (Cut fabric failed)) a b doable told first second =
     one_cut w fabric failed (first_told w fabric (failed ∷ []) told) (second_told w fabric failed [] told) a b first second
 one_answer_to w (Some (Show fabric plan from to)) a b doable told first second =
@@ -145,6 +151,7 @@ keeps_by w (Some (Check fabric plan)) a doable is = both_weaker w fabric plan Is
 keeps_by w (Some (Route fabric engine)) a doable is = fabric_weaker w fabric (IsRouteAnswer engine) (RoutesTruly engine) a (λ t made x. route_keeps engine t a made x) is
 keeps_by w (Some (Certify fabric plan)) a doable is = both_weaker w fabric plan IsCertifyAnswer CertifiesTruly a (λ t p read x. certify_keeps t p a read x) is
 keeps_by w (Some (Convert fabric plan)) a doable is = both_weaker w fabric plan IsPlanText ConvertsTruly a (λ t p read x. convert_keeps t p a read x) is
+keeps_by w (Some (Repair fabric plan failed lanes)) a doable is = repair_kept w fabric plan failed lanes a is
 keeps_by w (Some (Cut fabric failed)) a doable is = cut_keeps w fabric failed a is
 keeps_by w (Some (Show fabric plan from to)) a doable is = both_weaker w fabric plan (IsShowAnswer from.0 to.0) (ShowsTruly from.0 to.0) a (λ t p read x. show_keeps t p from.0 to.0 a x) is
 keeps_by w (Some (Load fabric plan)) a doable is = both_weaker w fabric plan IsLoadAnswer IsDone a (λ t p read x. load_keeps t p a x) is
@@ -169,6 +176,8 @@ small_by w (Some (Certify fabric plan)) a told is =
     both_small w fabric plan IsCertifyAnswer a told (λ t p x. certificate_is_small t p x.0 a x.2) is
 small_by w (Some (Convert fabric plan)) a told is =
     both_small w fabric plan IsPlanText a told (λ t p x. plan_is_small t p a x) is
+small_by w (Some (Repair fabric plan failed lanes)) a told is =
+    repair_is_small w fabric plan failed lanes (first_told w fabric (plan ∷ failed ∷ []) told) (second_told w fabric plan (failed ∷ []) told) (third_told w fabric plan failed told) a is
 small_by w (Some (Cut fabric failed)) a told is =
     cut_is_small w fabric failed (first_told w fabric (failed ∷ []) told) (second_told w fabric failed [] told) a is
 small_by w (Some (Show fabric plan from to)) a told is =
@@ -196,6 +205,8 @@ exists_by w (Some (Check fabric plan)) doable told = both_exist w fabric plan Is
 exists_by w (Some (Route fabric engine)) doable told = fabric_exists w fabric (IsRouteAnswer engine) (first_told w fabric [] told) (λ t made. route_exists engine t made doable.lanes)
 exists_by w (Some (Certify fabric plan)) doable told = both_exist w fabric plan IsCertifyAnswer told exists_certify
 exists_by w (Some (Convert fabric plan)) doable told = both_exist w fabric plan IsPlanText told (λ t p read. (done (plan_text t p), refl))
+exists_by w (Some (Repair fabric plan failed lanes)) doable told =
+    repair_exists w fabric plan failed lanes (first_told w fabric (plan ∷ failed ∷ []) told) (second_told w fabric plan (failed ∷ []) told) (third_told w fabric plan failed told) doable.lanes
 exists_by w (Some (Cut fabric failed)) doable told = cut_exists w fabric failed (first_told w fabric (failed ∷ []) told) (second_told w fabric failed [] told)
 exists_by w (Some (Show fabric plan from to)) doable told = both_exist w fabric plan (IsShowAnswer from.0 to.0) told (λ t p read. show_exists t p from.0 to.0)
 exists_by w (Some (Load fabric plan)) doable told = both_exist w fabric plan IsLoadAnswer told (λ t p read. (done (load_text t (loads_of t p.tables)), refl))

@@ -9,7 +9,7 @@ use Rattle.fab_top.specs.declared.command.Engine.TheVariants as engine
 use Rattle.fab_top.specs.declared.engine_words.Asked.{Asked}
 use Rattle.fab_top.specs.declared.engine_words.Asked.TheVariants.{Nothing, Roots, Lanes}
 use Rattle.fab_top.specs.Engines.{IsLaneCount, HasLaneCount}
-use Rattle.fab_top.specs.Words.{number_in, if_not_0, lanes_in, roots_in, roots_asked, asked_behind, asked_by, bare, rooted, laned, engine_forms, engine_in}
+use Rattle.fab_top.specs.Words.{number_in, if_not_0, lanes_in, flagged_lanes, roots_in, roots_asked, asked_behind, asked_by, bare, rooted, laned, engine_forms, engine_in}
 use Rattle.fab_top.proofs.LowNumbers.{number_is_low}
 
 abbrev pub AsksRightly : Asked → Type 0
@@ -35,6 +35,13 @@ in_range (Some n) low =
 
 pub lanes_in_range : (word : List ℕ) → IfSome (lanes_in word) IsLaneCount
 lanes_in_range word = in_range (number_in 15 word) (number_is_low 15 word)
+
+pub flagged_in_range : (flag count : List ℕ) → IfSome (flagged_lanes flag count) IsLaneCount
+flagged_in_range flag count = by (bytes_eq flag (codes "--lanes"))
+  where
+    by : (b : Bool) → IfSome (if b then lanes_in count else None) IsLaneCount
+    by true = lanes_in_range count
+    by false = tt
 
 counted : (o : Option ℕ) → IfSome o IsLaneCount → IfSome (option_map Lanes o) AsksRightly
 counted None count = tt
@@ -91,7 +98,7 @@ all_give = (
     bare_gives engine.Dor tt,
     (
       bare_gives engine.Sssp tt,
-      (rooted_gives, (laned_gives (λ n. engine.Lash n) (λ n count. count), (laned_gives (λ n. engine.Dfsssp n) (λ n count. count), tt))),
+      (rooted_gives, (laned_gives (λ n. engine.Lash n) (λ n count. count), (laned_gives (λ n. engine.Dfsssp n) (λ n count. count), (laned_gives (λ n. engine.Nue n) (λ n count. count), tt)))),
     ),
   ),
 )

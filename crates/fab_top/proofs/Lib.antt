@@ -14,7 +14,9 @@ pub mod Cutting
 pub mod Loading
 pub mod Showing
 pub mod Laying
+pub mod Repairing
 pub mod Answering
+pub mod TheHeadline
 pub mod TextLengths
 mod Examples
 pub mod RootWords

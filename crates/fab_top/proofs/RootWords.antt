@@ -1,5 +1,5 @@
 -- The words that name roots, two at a time.
-use Rattle.std.proofs.Common.{◌≡◌, ℕ, zero, suc, ◌+◌, ◌-◌, ◌<◌, ◌≤◌, Bool, true, false, List, [], ◌∷◌, ◌++◌, length, take, drop, Option, Some, None, String, refl, sym, ◌∙◌, ap, subst, arith, codes, slice_index_or, append_assoc}
+use Rattle.std.proofs.Common.{◌≡◌, ℕ, ◌-◌, ◌<◌, ◌≤◌, Bool, true, false, List, [], ◌∷◌, ◌++◌, length, take, drop, Option, Some, None, String, refl, sym, ◌∙◌, ap, arith, codes, slice_index_or, append_assoc}
 use Rattle.std.specs.Prelude.{option_map, not, if◌then◌else◌}
 use Rattle.std.specs.Str.{bytes_eq}
 use Rattle.std.specs.String.{string_bytes}

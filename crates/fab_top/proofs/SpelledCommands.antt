@@ -10,13 +10,13 @@ use Rattle.fab_report.specs.declared.recipe.Recipe.{Recipe}
 use Rattle.fab_report.specs.Laws.{HasSeed}
 use Rattle.fab_report.specs.Recipes.{fits}
 use Rattle.fab_top.specs.declared.command.Engine.{Engine}
-use Rattle.fab_top.specs.Engines.{HasLaneCount}
+use Rattle.fab_top.specs.Engines.{IsLaneCount, HasLaneCount}
 use Rattle.fab_top.specs.declared.command.Command.{Command}
-use Rattle.fab_top.specs.declared.command.Command.TheVariants.{Check, Route, Certify, Convert, Cut, Load, Gen, Demo}
+use Rattle.fab_top.specs.declared.command.Command.TheVariants.{Check, Route, Certify, Convert, Repair, Cut, Load, Gen, Demo}
 use Rattle.fab_top.specs.Ran.{files_of}
-use Rattle.fab_top.specs.Words.{texts, is_file, named, number_in, kinds, two_files, recipe_of, recipe_in, lid_in, show_from_to, show_words, gen_words, engine_in, asked_behind, asked_by, route_words, demo_words, commands, command_of}
+use Rattle.fab_top.specs.Words.{texts, is_file, named, number_in, kinds, two_files, recipe_of, recipe_in, lid_in, flagged_lanes, are_three_files, repair_words, show_from_to, show_words, gen_words, engine_in, asked_behind, asked_by, route_words, demo_words, commands, command_of}
 use Rattle.fab_top.proofs.LowNumbers.{number_is_low}
-use Rattle.fab_top.proofs.AskedLanes.{engine_after, asked_behind_rightly, asked_by_rightly}
+use Rattle.fab_top.proofs.AskedLanes.{engine_after, asked_behind_rightly, asked_by_rightly, flagged_in_range}
 
 -- each place is below a number
 abbrev pub AllBelow : ℕ → List ℕ → Type 0
@@ -37,6 +37,7 @@ HasFittingRecipe _ = Unit {0}
 abbrev pub HasLanes : Command → Type 0
 HasLanes (Route fabric engine) = HasLaneCount engine
 HasLanes (Demo recipe engine) = HasLaneCount engine
+HasLanes (Repair fabric plan failed lanes) = IsLaneCount lanes
 HasLanes _ = Unit {0}
 
 -- what the command asks for can be done
@@ -72,6 +73,20 @@ two_within make both [] made e = cc
 two_within make both (a ∷ []) made e = cc
 two_within make both (a ∷ b ∷ []) made e = made_if 3 (is_file a && is_file b) (make 1 2) made e both
 two_within make both (a ∷ b ∷ c ∷ rest) made e = cc
+
+made_repair : (b : Bool) (o : Option ℕ) (made : Command) → IfSome o IsLaneCount → option_and_then (λ lanes. then_some b (Repair 1 2 3 lanes)) o ≡ Some made → IsSpelledBy 6 made
+made_repair b None made count e = cc
+made_repair b (Some lanes) made count e =
+    made_if 6 b (Repair 1 2 3 lanes) made e (record { places = (omega arith, (omega arith, (omega arith, tt))); asks = record { recipe = tt; lanes = count } })
+
+repair_within : SpellsRightly repair_words
+repair_within [] made e = cc
+repair_within (a ∷ []) made e = cc
+repair_within (a ∷ b ∷ []) made e = cc
+repair_within (a ∷ b ∷ c ∷ []) made e = cc
+repair_within (a ∷ b ∷ c ∷ d ∷ []) made e = cc
+repair_within (a ∷ b ∷ c ∷ d ∷ x ∷ []) made e = made_repair (are_three_files a b c) (flagged_lanes d x) made (flagged_in_range d x) e
+repair_within (a ∷ b ∷ c ∷ d ∷ x ∷ y ∷ rest) made e = cc
 
 made_show : (from to : Option ℕ) (made : Command) → show_from_to from to ≡ Some made → IsSpelledBy 5 made
 made_show (Some from) (Some to) made e = made_as 5 _ made e (record { places = (omega arith, (omega arith, tt)); asks = record { recipe = tt; lanes = tt } })
@@ -188,12 +203,15 @@ all_right = (
       (
         two_within (λ f p. Convert f p) (record { places = both_places; asks = record { recipe = tt; lanes = tt } }),
         (
-          two_within (λ f x. Cut f x) (record { places = both_places; asks = record { recipe = tt; lanes = tt } }),
+          repair_within,
           (
-            show_within,
+            two_within (λ f x. Cut f x) (record { places = both_places; asks = record { recipe = tt; lanes = tt } }),
             (
-              two_within (λ f p. Load f p) (record { places = both_places; asks = record { recipe = tt; lanes = tt } }),
-              (gen_within, (demo_within, tt)),
+              show_within,
+              (
+                two_within (λ f p. Load f p) (record { places = both_places; asks = record { recipe = tt; lanes = tt } }),
+                (gen_within, (demo_within, tt)),
+              ),
             ),
           ),
         ),

@@ -5,3 +5,4 @@ pub mod WithoutFiles
 pub mod OnFabric
 pub mod OnBoth
 pub mod AfterFiles
+pub mod AfterList

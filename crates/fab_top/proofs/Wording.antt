@@ -9,7 +9,7 @@ use Rattle.fab_model.specs.declared.rows.Lid.{Lid}
 use Rattle.fab_model.specs.Topology.{lid_id}
 use Rattle.fab_top.specs.declared.command.Command.{Command}
 use Rattle.fab_top.specs.declared.command.Command.TheVariants.{Show}
-use Rattle.fab_top.specs.Words.{texts, is_file, lid_in, named, kinds, show_from_to, show_words, gen_words, route_words, demo_words, command_of, commands}
+use Rattle.fab_top.specs.Words.{texts, is_file, lid_in, named, kinds, repair_words, show_from_to, show_words, gen_words, route_words, demo_words, command_of, commands}
 
 -- a word that a table does not begin with is looked for behind
 other_word : (b : Bool) (xs ys : List ℕ) → Decides b (xs ≡ ys) → (ys ≡ xs → ⊥) → b ≡ false
@@ -57,6 +57,15 @@ no_recipe (a ∷ b ∷ c ∷ []) other = refl
 no_recipe (a ∷ b ∷ c ∷ d ∷ []) other = absurd (other (omega arith))
 no_recipe (a ∷ b ∷ c ∷ d ∷ x ∷ rest) other = refl
 
+pub no_repair : {Z : Type 0} (others : List (String Z)) → (length others ≡ 5 → ⊥) → None ≡ repair_words (texts others)
+no_repair [] other = refl
+no_repair (a ∷ []) other = refl
+no_repair (a ∷ b ∷ []) other = refl
+no_repair (a ∷ b ∷ c ∷ []) other = refl
+no_repair (a ∷ b ∷ c ∷ d ∷ []) other = refl
+no_repair (a ∷ b ∷ c ∷ d ∷ x ∷ []) other = absurd (other (omega arith))
+no_repair (a ∷ b ∷ c ∷ d ∷ x ∷ y ∷ rest) other = refl
+
 pub show_to_missing : (from to : Option ℕ) → None ≡ option_map lid_id to → None ≡ show_from_to from to
 show_to_missing (Some from) (Some to) e = cc
 show_to_missing (Some from) None e = refl
@@ -100,10 +109,10 @@ no_show_plan (a ∷ b ∷ c ∷ d ∷ []) four item at text is other =
     sym (no_files (is_file (string_bytes a)) (is_file (string_bytes b)) (show_from_to (lid_in (string_bytes c)) (lid_in (string_bytes d))) (ap (λ (w : List ℕ). is_file w) (sym (is ∙ ap string_bytes at)) ∙ other))
 
 pub no_such_command : {Z : Type 0} (words : List (String Z)) (name : String Z) → 0 < length words → name ≡ slice_index_or words 0 name →
-    (string_bytes name ≡ codes "check" → ⊥) → (string_bytes name ≡ codes "route" → ⊥) → (string_bytes name ≡ codes "certify" → ⊥) → (string_bytes name ≡ codes "convert" → ⊥) → (string_bytes name ≡ codes "cut" → ⊥) → (string_bytes name ≡ codes "show" → ⊥) → (string_bytes name ≡ codes "load" → ⊥) →
+    (string_bytes name ≡ codes "check" → ⊥) → (string_bytes name ≡ codes "route" → ⊥) → (string_bytes name ≡ codes "certify" → ⊥) → (string_bytes name ≡ codes "convert" → ⊥) → (string_bytes name ≡ codes "repair" → ⊥) → (string_bytes name ≡ codes "cut" → ⊥) → (string_bytes name ≡ codes "show" → ⊥) → (string_bytes name ≡ codes "load" → ⊥) →
     (string_bytes name ≡ codes "gen" → ⊥) → (string_bytes name ≡ codes "demo" → ⊥) → None ≡ command_of (texts words)
-no_such_command [] name some is check route certify convert cut show load gen demo = absurd (omega (arith, some))
-no_such_command {Z} (word ∷ others) name some is check route certify convert cut show load gen demo =
+no_such_command [] name some is check route certify convert repair cut show load gen demo = absurd (omega (arith, some))
+no_such_command {Z} (word ∷ others) name some is check route certify convert repair cut show load gen demo =
     let P : String Z → Type 0 = λ w. None ≡ command_of (texts (w ∷ others)) in
     subst P is (sym (ap (λ (o : Option (List (List ℕ) → Option Command)). option_and_then (λ form. form (texts others)) o)
-    (not_named commands (string_bytes name) (check, (route, (certify, (convert, (cut, (show, (load, (gen, (demo, tt))))))))))))
+    (not_named commands (string_bytes name) (check, (route, (certify, (convert, (repair, (cut, (show, (load, (gen, (demo, tt)))))))))))))

@@ -15,20 +15,21 @@ use Rattle.fab_certify.specs.declared.certified.Certified.{Certified}
 use Rattle.fab_certify.specs.declared.certified.Certified.TheVariants.{Numbers, Refused, RingUsed}
 use Rattle.fab_certify.specs.Certificate.{IsCertificate}
 use Rattle.fab_netdiscover.specs.Writing.{text_of}
+use Rattle.fab_nue.specs.NuePlan.{IsNuePlan}
 use Rattle.fab_report.specs.Loads.{loads_of}
 use Rattle.fab_report.specs.Shown.{shown_text}
 use Rattle.fab_report.specs.Recipes.{generated}
 use Rattle.fab_report.specs.Summary.{summary_of}
 use Rattle.fab_top.specs.declared.command.Engine.{Engine}
 use Rattle.fab_top.specs.declared.command.Command.{Command}
-use Rattle.fab_top.specs.declared.command.Command.TheVariants.{Check, Route, Certify, Convert, Cut, Show, Load, Gen, Demo}
+use Rattle.fab_top.specs.declared.command.Command.TheVariants.{Check, Route, Certify, Convert, Repair, Cut, Show, Load, Gen, Demo}
 use Rattle.fab_top.specs.Words.{command_of}
 use Rattle.fab_top.specs.Usage.{usage_text}
 use Rattle.fab_top.specs.Answer.{Answer, done, no}
 use Rattle.fab_top.specs.Texts.{verdict_text, ring_text, from_text, end_text}
 use Rattle.fab_top.specs.Engines.{Lays, RefusesWith}
 use Rattle.fab_top.specs.Files.{known_place}
-use Rattle.fab_top.specs.ReportTexts.{load_text, summary_text}
+use Rattle.fab_top.specs.ReportTexts.{kept_text, load_text, summary_text}
 use Rattle.fab_top.specs.Seen.{Seen, After, WithFabric, WithBoth, WithoutFailed}
 
 -- ---- check
@@ -64,6 +65,16 @@ IsCertifyAnswer t p answer = (certified : Certified) × IsCertificate t p certif
 
 abbrev pub IsPlanText : Topology → Plan → Answer → Type 0
 IsPlanText t p answer = answer ≡ done (plan_text t p)
+
+-- ---- repair, on the fabric without the failed cables
+
+-- the plan on the output, and on the error output which LIDs it keeps
+abbrev pub repaired : Topology → Plan → List ℕ → Answer
+repaired t p kept = record { status = 0; out = plan_text t p; err = kept_text t kept }
+
+-- Nue's plan, which keeps of the old one each LID that can stay
+abbrev pub IsRepairAnswer : ℕ → Plan → Topology → Answer → Type 0
+IsRepairAnswer lanes old t answer = (p : Plan) × (kept : List ℕ) × IsNuePlan t lanes (Some old) kept p × (answer ≡ repaired t p kept)
 
 -- ---- show
 
@@ -112,6 +123,7 @@ IsAnswerTo w (Check fabric plan) answer = WithBoth w fabric plan IsCheckAnswer a
 IsAnswerTo w (Route fabric engine) answer = WithFabric w fabric (IsRouteAnswer engine) answer
 IsAnswerTo w (Certify fabric plan) answer = WithBoth w fabric plan IsCertifyAnswer answer
 IsAnswerTo w (Convert fabric plan) answer = WithBoth w fabric plan IsPlanText answer
+IsAnswerTo w (Repair fabric plan failed lanes) answer = WithBoth w fabric plan (λ t p. WithoutFailed w t failed (IsRepairAnswer lanes p)) answer
 IsAnswerTo w (Cut fabric failed) answer = WithFabric w fabric (λ t. WithoutFailed w t failed IsFabricText) answer
 IsAnswerTo w (Show fabric plan from to) answer = WithBoth w fabric plan (IsShowAnswer from.0 to.0) answer
 IsAnswerTo w (Load fabric plan) answer = WithBoth w fabric plan IsLoadAnswer answer

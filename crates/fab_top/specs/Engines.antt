@@ -1,5 +1,5 @@
 -- The plans of the engines, and their refusals.
-use Rattle.std.specs.Prelude.{◌≡◌, ℕ, ◌-◌, ◌<◌, ◌≤◌, List, None, Result, Ok, Err}
+use Rattle.std.specs.Prelude.{◌≡◌, ℕ, ◌-◌, ◌<◌, ◌≤◌, Bool, true, false, List, [], None, Result, Ok, Err}
 use Rattle.fab_model.specs.Topology.{Topology}
 use Rattle.fab_tables.specs.declared.plan.Plan.{Plan}
 use Rattle.fab_balance.specs.MinHop.{AreMinHopTables, AreDorTables}
@@ -10,8 +10,9 @@ use Rattle.fab_lash.specs.Layered.{IsLayeredPlan}
 use Rattle.fab_lash.specs.Layerings as layers
 use Rattle.fab_dfsssp.specs.DfssspPlans.{IsDfssspPlan}
 use Rattle.fab_dfsssp.specs.Breaking as rings
+use Rattle.fab_nue.specs.NuePlan.{IsNuePlan}
 use Rattle.fab_top.specs.declared.command.Engine.{Engine}
-use Rattle.fab_top.specs.declared.command.Engine.TheVariants.{MinHop, Dor, Sssp, Updn, Lash, Dfsssp}
+use Rattle.fab_top.specs.declared.command.Engine.TheVariants.{MinHop, Dor, Sssp, Updn, Lash, Dfsssp, Nue}
 use Rattle.fab_updn.specs.UpDownPlans.{IsUpDownPlan, IsRefusedPair}
 use Rattle.fab_top.specs.Answer.{Answer, no, refused}
 use Rattle.fab_top.specs.Files.{roots_from}
@@ -47,6 +48,7 @@ IsLaneCount n = (0 < n) × (n ≤ 15)
 abbrev pub HasLaneCount : Engine → Type 0
 HasLaneCount (Lash lanes) = IsLaneCount lanes
 HasLaneCount (Dfsssp lanes) = IsLaneCount lanes
+HasLaneCount (Nue lanes) = IsLaneCount lanes
 HasLaneCount _ = Unit {0}
 
 -- the engine lays this plan for the fabric
@@ -57,6 +59,7 @@ Lays t Sssp p = (p.lanes ≡ None) × AreLeastWeightTables t p.tables
 Lays t (Updn guids) p = LaysUpDown t (roots_from 0 t guids) p
 Lays t (Lash lanes) p = LaysLayers t lanes p
 Lays t (Dfsssp lanes) p = IsDfssspPlan t lanes p
+Lays t (Nue lanes) p = IsNuePlan t lanes None [] p
 
 -- it refuses the fabric, with this answer
 abbrev pub RefusesWith : Topology → Engine → Answer → Type 0
@@ -66,3 +69,18 @@ RefusesWith t Sssp answer = ⊥
 RefusesWith t (Updn guids) answer = RefusesUpDown t (roots_from 0 t guids) answer
 RefusesWith t (Lash lanes) answer = RefusesPair t lanes answer
 RefusesWith t (Dfsssp lanes) answer = RefusesRing t lanes answer
+RefusesWith t (Nue lanes) answer = ⊥
+
+-- the engines whose plans have lanes
+abbrev pub has_lanes : Engine → Bool
+has_lanes MinHop = false
+has_lanes Dor = false
+has_lanes Sssp = false
+has_lanes _ = true
+
+-- the engines that refuse no fabric
+abbrev pub never_refuses : Engine → Bool
+never_refuses (Updn guids) = false
+never_refuses (Lash lanes) = false
+never_refuses (Dfsssp lanes) = false
+never_refuses _ = true

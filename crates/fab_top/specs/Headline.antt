@@ -1,8 +1,9 @@
--- What the program promises of its answers.
-use Rattle.std.specs.Prelude.{◌≡◌, ◌↔◌, ◌⊎◌, ℕ, ◌≤◌, List, [], ◌++◌, length, Option, None, Some, Ok, MatchOption}
+-- The headline, and what the program promises of its answers, command by command.
+use Rattle.std.specs.Prelude.{◌≡◌, ◌↔◌, ◌⊎◌, ℕ, ◌≤◌, List, [], ◌++◌, length, Option, None, Some, Ok, MatchOption, IsTrue}
 use Rattle.fab_graph.specs.Walks.{IsAcyclic, Rises}
+use Rattle.fab_model.specs.declared.rows.Cable.{Cable}
 use Rattle.fab_model.specs.declared.rows.Place.{Place}
-use Rattle.fab_model.specs.Topology.{Topology}
+use Rattle.fab_model.specs.Topology.{Topology, lids_of}
 use Rattle.fab_model.specs.Connected.{IsConnectedTo}
 use Rattle.fab_model.specs.WellFormed.{IsFabric}
 use Rattle.fab_tables.specs.declared.plan.Plan.{Plan}
@@ -14,19 +15,22 @@ use Rattle.fab_tables.specs.LaneTables.{LaneTables}
 use Rattle.fab_tables.specs.Route.{route, visited, HasRepeat}
 use Rattle.fab_check.specs.Free.{IsFreeOfDeadlock}
 use Rattle.fab_certify.specs.Numbered.{IsSound}
+use Rattle.fab_nue.specs.NuePlan.{IsNuePlan}
 use Rattle.fab_report.specs.declared.recipe.Recipe.{Recipe}
 use Rattle.fab_report.specs.Recipes.{generated}
 use Rattle.fab_report.specs.Summary.{summary_of}
 use Rattle.fab_top.specs.declared.command.Engine.{Engine}
+use Rattle.fab_top.specs.declared.command.Engine.TheVariants.{Nue}
 use Rattle.fab_top.specs.declared.command.Command.{Command}
-use Rattle.fab_top.specs.declared.command.Command.TheVariants.{Check, Route, Certify, Convert, Cut, Show, Load, Gen, Demo}
+use Rattle.fab_top.specs.declared.command.Command.TheVariants.{Check, Route, Certify, Convert, Repair, Cut, Show, Load, Gen, Demo}
 use Rattle.fab_top.specs.Words.{command_of}
-use Rattle.fab_top.specs.Answer.{Answer}
-use Rattle.fab_top.specs.Engines.{Lays, RefusesWith}
-use Rattle.fab_top.specs.Files.{fabric_limit, fabric_in, plan_in, known_place}
+use Rattle.fab_top.specs.Answer.{Answer, done}
+use Rattle.fab_top.specs.Answers.{IsAnswer, repaired}
+use Rattle.fab_top.specs.Engines.{Lays, RefusesWith, has_lanes, never_refuses}
+use Rattle.fab_top.specs.Files.{fabric_limit, fabric_in, plan_in, failed_in, without_failed, known_place}
 use Rattle.fab_top.specs.ReportTexts.{summary_text}
 use Rattle.fab_top.specs.Texts.{ok_routes, ok_lanes}
-use Rattle.fab_top.specs.Seen.{Seen, After, WithFabric, WithBoth, WithoutFailed}
+use Rattle.fab_top.specs.Seen.{Seen, Content, After, WithFabric, WithBoth, WithoutFailed, word_at}
 
 -- following the tables from every switch reaches every LID connected to it, and meets no switch twice
 abbrev pub FollowsWell : Topology → Entries → Type 0
@@ -36,6 +40,62 @@ FollowsWell t e = (s lid : ℕ) → IsConnectedTo t s lid →
 -- along every two virtual channels that a source's route uses in succession the numbers rise
 abbrev pub NumbersRise : Topology → Plan → Type 0
 NumbersRise t p = (l : LaneTables) → p.lanes ≡ Some l → Rises (number_of l) (Depends t p.tables l)
+
+-- ---- the headline
+
+-- what files say: the file of a place this fabric, this plan of it, or failed cables that are all in it and leave this fabric
+abbrev pub SaysFabric : Seen → ℕ → Topology → Type 0
+SaysFabric w place t = (bytes : List ℕ) × (w.content place ≡ Content.Holds bytes) × (fabric_in (word_at w.words place) bytes ≡ Ok t)
+
+abbrev pub SaysPlan : Seen → Topology → ℕ → Plan → Type 0
+SaysPlan w t place p = (bytes : List ℕ) × (w.content place ≡ Content.Holds bytes) × (plan_in t (word_at w.words place) bytes ≡ Ok p)
+
+abbrev pub SaysLeft : Seen → Topology → ℕ → Topology → Type 0
+SaysLeft w t place left =
+    (bytes : List ℕ) × (cables : List Cable) × (w.content place ≡ Content.Holds bytes) × (failed_in (word_at w.words place) bytes ≡ Ok cables)
+    × (without_failed (word_at w.words place) t cables ≡ Ok left)
+
+-- the words ask for the verdict on this plan of this fabric
+abbrev pub AsksCheck : Seen → Topology → Plan → Type 0
+AsksCheck w t p = (fabric plan : ℕ) × (command_of w.words ≡ Some (Check fabric plan)) × SaysFabric w fabric t × SaysPlan w t plan p
+
+-- they ask for an engine's plan for this fabric
+abbrev pub AsksRoute : Seen → Engine → Topology → Type 0
+AsksRoute w engine t = (fabric : ℕ) × (command_of w.words ≡ Some (Route fabric engine)) × SaysFabric w fabric t
+
+-- they ask for a repaired plan, where failed cables leave this fabric
+abbrev pub AsksRepair : Seen → Topology → Type 0
+AsksRepair w left =
+    (fabric plan failed lanes : ℕ) × (t : Topology) × (old : Plan) × (command_of w.words ≡ Some (Repair fabric plan failed lanes))
+    × SaysFabric w fabric t × SaysPlan w t plan old × SaysLeft w t failed left
+
+-- they ask UPDN, LASH, DFSSSP, Nue or a repair for a plan for this fabric
+abbrev pub AsksLanes : Seen → Topology → Type 0
+AsksLanes w t = ((engine : Engine) × IsTrue (has_lanes engine) × AsksRoute w engine t) ⊎ AsksRepair w t
+
+-- they ask Nue or a repair, at any lane count
+abbrev pub AsksNue : Seen → Topology → Type 0
+AsksNue w t = ((lanes : ℕ) × AsksRoute w (Nue lanes) t) ⊎ AsksRepair w t
+
+-- the plan has lanes, whose numbers rise along every two virtual channels that a source's route uses in succession
+abbrev pub RisesAlongRoutes : Topology → Plan → Type 0
+RisesAlongRoutes t p = (l : LaneTables) × (p.lanes ≡ Some l) × Rises (number_of l) (Depends t p.tables l)
+
+-- `check`, asked of this fabric and a file that holds the text, answers ok with lanes
+abbrev pub IsAccepted : Topology → List ℕ → Type 0
+IsAccepted t text =
+    (w : Seen) (fabric plan : ℕ) (a : Answer) → command_of w.words ≡ Some (Check fabric plan) → SaysFabric w fabric t → w.content plan ≡ Content.Holds text → IsAnswer w a → a ≡ done ok_lanes
+
+pub record Headline : Type 0 where
+  -- Where `check` answers ok with lanes, following the plan's tables from every switch reaches every destination connected to it
+  -- without a repeated switch, and the numbers rise along every two virtual channels that a source's route uses in succession.
+  pub checked : (w : Seen) (t : Topology) (p : Plan) (a : Answer) → AsksCheck w t p → IsAnswer w a → a ≡ done ok_lanes → FollowsWell t p.tables × RisesAlongRoutes t p
+  -- Every plan written by UPDN, LASH, DFSSSP, Nue or a repair is one that `check` so accepts.
+  pub written : (w : Seen) (t : Topology) (a : Answer) → AsksLanes w t → IsAnswer w a → a.status ≡ 0 → IsAccepted t a.out
+  -- Nue and repair refuse no well-formed fabric at any lane count.
+  pub never_refused : (w : Seen) (t : Topology) (a : Answer) → AsksNue w t → IsAnswer w a → a.status ≡ 0
+
+-- ---- check and certify
 
 -- what an operator may trust of a plan: it follows well, its numbers rise, and no packets of it wait for each other
 pub record IsSafe (t : Topology) (p : Plan) : Type 0 where
@@ -111,11 +171,14 @@ IsGood t p = ((p.lanes ≡ None) × Reaches t p.tables) ⊎ IsCertified t p
 abbrev pub IsLaidAgain : Engine → Topology → List ℕ → Type 0
 IsLaidAgain engine t text = (p : Plan) × Lays t engine p × IsGood t p × IsReadAgain t p text
 
--- a good plan of the engine is written, or else its rule refuses the fabric, and nothing is
+-- A good plan of the engine is written, or else its rule refuses the fabric, and nothing is. That of an engine with lanes is
+-- certified. Some engines refuse no fabric.
 pub record RoutesTruly (engine : Engine) (t : Topology) (answer : Answer) : Type 0 where
   pub done : Done answer ⊎ RefusesWith t engine answer
   pub nothing : ¬ Done answer → answer.out ≡ []
   pub laid : Done answer → IsLaidAgain engine t answer.out
+  pub certified : IsTrue (has_lanes engine) → Done answer → IsCertifiedAgain t answer.out
+  pub never_refused : IsTrue (never_refuses engine) → Done answer
 
 -- the text of the verdict on a good plan
 abbrev pub ok_text : Option LaneTables → List ℕ
@@ -131,6 +194,16 @@ pub record ShowsOff (engine : Engine) (t : Topology) (answer : Answer) : Type 0 
   pub done : Done answer ⊎ RefusesWith t engine answer
   pub nothing : ¬ Done answer → answer.out ≡ []
   pub shown : Done answer → IsShownOff engine t answer.out
+  pub never_refused : IsTrue (never_refuses engine) → Done answer
+
+-- ---- repair
+
+-- No fabric is refused, and the plan that is written is certified for the fabric without the failed cables. An old plan that Nue or a
+-- repair made for that fabric and lane count stays as it is, with every LID kept.
+pub record RepairsTruly (lanes : ℕ) (old : Plan) (t : Topology) (answer : Answer) : Type 0 where
+  pub done : Done answer
+  pub certified : IsCertifiedAgain t answer.out
+  pub itself : (older : Option Plan) (before : List ℕ) → IsNuePlan t lanes older before old → answer ≡ repaired t old (lids_of t)
 
 -- by command
 abbrev pub KeepsHeadlineOf : Seen → Command → Answer → Type 0
@@ -138,6 +211,7 @@ KeepsHeadlineOf w (Check fabric plan) answer = WithBoth w fabric plan ChecksTrul
 KeepsHeadlineOf w (Route fabric engine) answer = WithFabric w fabric (RoutesTruly engine) answer
 KeepsHeadlineOf w (Certify fabric plan) answer = WithBoth w fabric plan CertifiesTruly answer
 KeepsHeadlineOf w (Convert fabric plan) answer = WithBoth w fabric plan ConvertsTruly answer
+KeepsHeadlineOf w (Repair fabric plan failed lanes) answer = WithBoth w fabric plan (λ t p. WithoutFailed w t failed (RepairsTruly lanes p)) answer
 KeepsHeadlineOf w (Cut fabric failed) answer = WithFabric w fabric (λ t. WithoutFailed w t failed WritesTruly) answer
 KeepsHeadlineOf w (Show fabric plan from to) answer = WithBoth w fabric plan (ShowsTruly from.0 to.0) answer
 KeepsHeadlineOf w (Load fabric plan) answer = WithBoth w fabric plan IsDone answer

@@ -5,7 +5,7 @@ use Rattle.std.specs.Prelude.{◌≡◌, ℕ, ◌<◌, ◌≤◌, ◌⊎◌, Lis
 use Rattle.std.specs.Option.{option_map_or}
 use Rattle.fab_io.specs.Faults.{Rose}
 use Rattle.fab_top.specs.declared.command.Command.{Command}
-use Rattle.fab_top.specs.declared.command.Command.TheVariants.{Check, Route, Certify, Convert, Cut, Show, Load, Gen, Demo}
+use Rattle.fab_top.specs.declared.command.Command.TheVariants.{Check, Route, Certify, Convert, Repair, Cut, Show, Load, Gen, Demo}
 use Rattle.fab_top.specs.Words.{command_of}
 use Rattle.fab_top.specs.Answer.{Answer, unread}
 use Rattle.fab_top.specs.Seen.{seen, seen_failing, word_at}
@@ -29,6 +29,7 @@ files_of (Check fabric plan) = fabric ∷ plan ∷ []
 files_of (Route fabric engine) = fabric ∷ []
 files_of (Certify fabric plan) = fabric ∷ plan ∷ []
 files_of (Convert fabric plan) = fabric ∷ plan ∷ []
+files_of (Repair fabric plan failed lanes) = fabric ∷ plan ∷ failed ∷ []
 files_of (Cut fabric failed) = fabric ∷ failed ∷ []
 files_of (Show fabric plan from to) = fabric ∷ plan ∷ []
 files_of (Load fabric plan) = fabric ∷ plan ∷ []

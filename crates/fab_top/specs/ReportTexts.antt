@@ -1,11 +1,25 @@
--- The texts of reports. Each ends with a line feed.
-use Rattle.std.specs.Prelude.{ℕ, List, ◌++◌, flat_map, slice_index, Some, codes, decimal}
+-- The texts of reports, and of what a repair kept. Each ends with a line feed.
+use Rattle.std.specs.Prelude.{ℕ, List, ◌++◌, length, flat_map, slice_index, Some, codes, decimal}
 use Rattle.std.specs.List.{enumerate_from}
 use Rattle.fab_model.specs.declared.rows.ChannelRow.{ChannelRow}
-use Rattle.fab_model.specs.Topology.{Topology}
+use Rattle.fab_model.specs.Topology.{Topology, lids_of}
+use Rattle.fab_dump.specs.Writing.{hex4}
 use Rattle.fab_report.specs.declared.rows.SummaryRow.{SummaryRow}
 use Rattle.fab_report.specs.Loads.{greatest}
 use Rattle.fab_top.specs.Texts.{channel_row_text}
+
+-- ---- repair
+
+-- how many LIDs are kept, of how many
+abbrev pub kept_front : ℕ → ℕ → List ℕ
+kept_front kept lids = codes "kept " ++ decimal kept ++ codes " of " ++ decimal lids ++ codes ":"
+
+abbrev pub kept_lid : ℕ → List ℕ
+kept_lid lid = codes " " ++ hex4 lid
+
+-- which LIDs a repair kept, of all in use
+abbrev pub kept_text : Topology → List ℕ → List ℕ
+kept_text t kept = kept_front (length kept) (length (lids_of t)) ++ flat_map kept_lid kept ++ codes "\n"
 
 -- ---- load
 

@@ -2,9 +2,10 @@
 --     check FABRIC PLAN
 --     route minhop|dor|sssp FABRIC
 --     route updn FABRIC, and then any number of --root GUID
---     route lash|dfsssp FABRIC --lanes N
+--     route lash|dfsssp|nue FABRIC --lanes N
 --     certify FABRIC PLAN
 --     convert FABRIC PLAN
+--     repair FABRIC PLAN FAILED --lanes N
 --     cut FABRIC FAILED
 --     show FABRIC PLAN SRC DST
 --     load FABRIC PLAN
@@ -83,6 +84,7 @@ engine_forms =
     ∷ (codes "updn", rooted)
     ∷ (codes "lash", laned engine.Lash)
     ∷ (codes "dfsssp", laned engine.Dfsssp)
+    ∷ (codes "nue", laned engine.Nue)
     ∷ []
 
 abbrev pub engine_in : List ℕ → Asked → Option Engine
@@ -94,6 +96,10 @@ if_not_0 n = then_some (not (n == 0)) n
 
 abbrev pub lanes_in : List ℕ → Option ℕ
 lanes_in word = option_and_then if_not_0 (number_in 15 word)
+
+-- behind its flag
+abbrev pub flagged_lanes : List ℕ → List ℕ → Option ℕ
+flagged_lanes flag count = if bytes_eq flag (codes "--lanes") then lanes_in count else None
 
 -- any number of roots, each behind its flag
 abbrev pub with_guid : Option ℕ → Option (List ℕ) → Option (List ℕ)
@@ -142,6 +148,14 @@ are_two_files _ = false
 abbrev pub two_files : (ℕ → ℕ → Command) → List (List ℕ) → Option Command
 two_files make words = then_some (are_two_files words) (make 1 2)
 
+abbrev pub are_three_files : List ℕ → List ℕ → List ℕ → Bool
+are_three_files first second third = is_file first && is_file second && is_file third
+
+abbrev pub repair_words : List (List ℕ) → Option Command
+repair_words (fabric ∷ plan ∷ failed ∷ flag ∷ count ∷ []) =
+    option_and_then (λ lanes. then_some (are_three_files fabric plan failed) (command.Repair 1 2 3 lanes)) (flagged_lanes flag count)
+repair_words _ = None
+
 abbrev pub show_from_to : Option ℕ → Option ℕ → Option Command
 show_from_to (Some from) (Some to) = Some (command.Show 1 2 (lid_id from) (lid_id to))
 show_from_to _ _ = None
@@ -169,6 +183,7 @@ commands =
     ∷ (codes "route", route_words)
     ∷ (codes "certify", two_files command.Certify)
     ∷ (codes "convert", two_files command.Convert)
+    ∷ (codes "repair", repair_words)
     ∷ (codes "cut", two_files command.Cut)
     ∷ (codes "show", show_words)
     ∷ (codes "load", two_files command.Load)

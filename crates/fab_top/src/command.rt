@@ -20,6 +20,8 @@ pub enum Engine {
     Lash(u8),
     /// Walks of least weight, whose rings are broken by moving routes to the next lane, on so many lanes, 1 to 15.
     Dfsssp(u8),
+    /// Routes found one destination after the other that close no ring with those before them, on so many lanes, 1 to 15.
+    Nue(u8),
 }
 
 /// What the words ask for. A file is named by the place of its word in the list of words, from 0.
@@ -44,6 +46,14 @@ pub enum Command {
     Convert {
         fabric: usize,
         plan: usize,
+    },
+    /// The plan for a fabric without the cables of a list, which keeps of an old plan each LID that can stay, on so many
+    /// lanes, 1 to 15.
+    Repair {
+        fabric: usize,
+        plan: usize,
+        failed: usize,
+        lanes: u8,
     },
     /// A fabric without the cables of a list.
     Cut {

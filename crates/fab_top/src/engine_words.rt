@@ -63,12 +63,13 @@ fn engine_in(alloc: Global, name: &str, asked: Asked) -> Option<Engine>
         "updn" => rooted(alloc, asked),
         "lash" => Some(Engine::Lash(lanes_asked(asked)?)),
         "dfsssp" => Some(Engine::Dfsssp(lanes_asked(asked)?)),
+        "nue" => Some(Engine::Nue(lanes_asked(asked)?)),
         _ => None,
     }
 }
 
 /// A lane count, 1 to 15.
-fn lanes_in(word: &str) -> Option<u8>
+pub(crate) fn lanes_in(word: &str) -> Option<u8>
     ensures { result ≡ lanes_in word.now }
 {
     let count = number_in(15, word)? as u8;

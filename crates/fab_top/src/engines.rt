@@ -5,7 +5,7 @@ ghost use Rattle.fab_top.specs.Engines.{HasLaneCount};
 ghost use Rattle.fab_top.specs.Outcomes.{LaysRightly};
 
 use crate::command::Engine;
-use crate::laned::{layered, rings_broken};
+use crate::laned::{guarded, layered, rings_broken};
 use crate::outcome::Stop;
 use crate::up_down::up_down;
 use fab_balance::{dor, minhop};
@@ -52,5 +52,6 @@ pub(crate) fn laid(alloc: Global, fabric: &Fabric, engine: Engine) -> Result<Eng
         Engine::Updn(roots) => up_down(alloc, fabric, roots.guids()),
         Engine::Lash(lanes) => layered(alloc, fabric, lanes),
         Engine::Dfsssp(lanes) => rings_broken(alloc, fabric, lanes),
+        Engine::Nue(lanes) => guarded(alloc, fabric, lanes),
     }
 }

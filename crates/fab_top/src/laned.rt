@@ -1,4 +1,4 @@
-//! Engines that lay a plan on a given number of lanes, or say that they need another. The time and memory are those of the
+//! Engines that lay a plan on a given number of lanes, or say that they need another, which Nue never does. The time and memory are those of the
 //! engines, and of hop counts.
 ghost use Rattle.fab_top.specs.Engines.{IsLaneCount};
 ghost use Rattle.fab_top.specs.Outcomes.{LaysRightly};
@@ -11,6 +11,7 @@ use fab_dfsssp::{BreakFault, dfsssp};
 use fab_hops::Hops;
 use fab_lash::{LashFault, lash};
 use fab_model::Fabric;
+use fab_nue::nue;
 use std::alloc::Global;
 
 /// What layered shortest path routing makes of a fabric.
@@ -43,4 +44,14 @@ pub(crate) fn rings_broken(alloc: Global, fabric: &Fabric, lanes: u8) -> Result<
         )?)),
         Err(BreakFault::Memory(refused)) => Err(Stop::Memory(refused)),
     }
+}
+
+/// What Nue makes of a fabric: always a plan.
+pub(crate) fn guarded(alloc: Global, fabric: &Fabric, lanes: u8) -> Result<EngineAnswer, Stop>
+    requires { IsLaneCount lanes }
+    ensures { LaysRightly fabric.now (engine.Nue lanes) result }
+{
+    let hops = Hops::of(alloc, fabric)?;
+    let laid = nue(alloc, fabric, &hops, lanes, None)?;
+    Ok(EngineAnswer::Plan(laid.plan))
 }

@@ -23,6 +23,6 @@ mod words;
 
 pub use command::{Command, Engine};
 pub use guid_list::GuidList;
-pub use laws::{answer_exists, answers_keep_headline, one_answer, status_is_small};
+pub use laws::{answer_exists, answers_keep_headline, headline, one_answer, status_is_small};
 pub use top_call::run;
 pub use words::{WordsFault, read_words};

@@ -1,13 +1,15 @@
 //! The lines of reports: each channel with its load, in time and memory of the channels; the counts of a plan, in nine
-//! lines.
-ghost use Rattle.std.specs.Prelude.{◌≡◌, ◌<◌, ◌++◌, length, slice_get, flat_map, IfOk, IfSome, OnOk};
+//! lines; the LIDs that a repair kept, in one line and in time and memory of those LIDs.
+ghost use Rattle.std.specs.Prelude.{◌≡◌, ◌<◌, ◌++◌, length, map, slice_get, flat_map, IfOk, IfSome, OnOk};
 ghost use Rattle.std.specs.List.{enumerate_from};
-ghost use Rattle.fab_top.specs.ReportTexts.{load_line, load_text, count_line, summary_text};
+ghost use Rattle.fab_model.specs.declared.rows.Lid.{Lid as Number};
+ghost use Rattle.fab_top.specs.ReportTexts.{kept_front, kept_lid, kept_text, load_line, load_text, count_line, summary_text};
 
 use crate::texts::push_channel;
-use fab_model::{ChannelId, Fabric};
+use fab_model::{ChannelId, Fabric, Lid};
+use fab_nue::LidList;
 use fab_report::{Loads, SummaryRow};
-use fab_text::push_dec;
+use fab_text::{push_dec, push_hex4};
 use std::alloc::{AllocError, Global};
 
 /// A channel and its load.
@@ -83,5 +85,52 @@ pub(crate) fn summary_text(alloc: Global, row: &SummaryRow) -> Result<Vec<u8>, A
     )?;
     push_count(&mut text, b"hops", row.hops)?;
     push_count(&mut text, b"greatest load", row.greatest_load)?;
+    Ok(text)
+}
+
+/// How many LIDs are kept, of how many.
+fn kept_front(alloc: Global, kept: usize, lids: u32) -> Result<Vec<u8>, AllocError>
+    ensures { IfOk result (λ text. text.items ≡ kept_front kept lids) }
+{
+    let mut text = Vec::new(alloc);
+    text.extend_from_slice(b"kept ")?;
+    push_dec(&mut text, kept as u64)?;
+    text.extend_from_slice(b" of ")?;
+    push_dec(&mut text, u64::from(lids))?;
+    text.extend_from_slice(b":")?;
+    Ok(text)
+}
+
+/// A kept LID.
+#[tactic(auto, unfolding(fab_dump::specs::Writing::hex4))]
+fn push_kept_lid(to: &mut Vec<u8>, lid: Lid) -> Result<(), AllocError>
+    ensures { OnOk result (to.new.items ≡ to.old.items ++ kept_lid lid.0) }
+{
+    to.extend_from_slice(b" 0x")?;
+    push_hex4(to, lid.0)
+}
+
+/// The kept LIDs.
+fn push_kept_lids(to: &mut Vec<u8>, kept: &[Lid]) -> Result<(), AllocError>
+    ensures { OnOk result (to.new.items ≡ to.old.items ++ flat_map (λ (lid : Number). kept_lid lid.0) kept.now) }
+{
+    for lid in kept {
+        push_kept_lid(to, *lid)?;
+    }
+    Ok(())
+}
+
+/// The line that says which LIDs of a fabric a repair kept.
+pub(crate) fn kept_text(
+    alloc: Global,
+    fabric: &Fabric,
+    kept: &LidList,
+) -> Result<Vec<u8>, AllocError>
+    ensures { IfOk result (λ text. text.items ≡ kept_text fabric.now kept.now) }
+{
+    let kept = kept.lids();
+    let mut text = kept_front(alloc, kept.len(), fabric.lids())?;
+    push_kept_lids(&mut text, kept)?;
+    text.extend_from_slice(b"\n")?;
     Ok(text)
 }

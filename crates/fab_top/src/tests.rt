@@ -159,7 +159,7 @@ fn what_is_routed_is_good(rt: HostRuntime) -> Result<(), Fail> {
     }
     let verdict = verdict_on_plan(alloc, &["route", "updn", "LINE", "--root", "0x11"])?;
     assert_eq!(rt; verdict.bytes(), b"ok: routes and lanes\n".as_slice());
-    for engine in ["lash", "dfsssp"] {
+    for engine in ["lash", "dfsssp", "nue"] {
         let verdict = verdict_on_plan(alloc, &["route", engine, "LINE", "--lanes", "1"])?;
         assert_eq!(rt; verdict.bytes(), b"ok: routes and lanes\n".as_slice());
     }

@@ -9,7 +9,7 @@ ghost use Rattle.fab_top.specs.Ran.{Ran};
 ghost use Rattle.fab_top.specs.Usage.{usage_text};
 
 use crate::command::Command;
-use crate::commands::{certify, check, convert, cut, generate, load, show};
+use crate::commands::{certify, check, convert, cut, generate, load, repair, show};
 use crate::fault_texts::unread_text;
 use crate::outcome::{Outcome, Stop};
 use crate::outputs::{put_answer, put_outcome};
@@ -61,6 +61,12 @@ fn obey<F: Shelf>(
         Command::Route { fabric, engine } => route(alloc, words, shelf, fabric, engine),
         Command::Certify { fabric, plan } => certify(alloc, words, shelf, fabric, plan),
         Command::Convert { fabric, plan } => convert(alloc, words, shelf, fabric, plan),
+        Command::Repair {
+            fabric,
+            plan,
+            failed,
+            lanes,
+        } => repair(alloc, words, shelf, fabric, plan, failed, lanes),
         Command::Cut { fabric, failed } => cut(alloc, words, shelf, fabric, failed),
         Command::Show {
             fabric,

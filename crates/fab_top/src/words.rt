@@ -2,14 +2,14 @@
 //! length of the words gives.
 ghost use Rattle.std.specs.Prelude.{◌≡◌, ◌≤◌, IfSome, IfOk, option_map};
 ghost use Rattle.std.specs.Bool.{then_some};
-ghost use Rattle.fab_top.specs.Words.{texts, command_of, is_file, are_two_files, has_leading_zero, number_in, named, kinds, lid_in, show_from_to, show_words, recipe_in, gen_words};
+ghost use Rattle.fab_top.specs.Words.{texts, command_of, is_file, are_two_files, has_leading_zero, number_in, named, kinds, lid_in, lanes_in, flagged_lanes, are_three_files, repair_words, show_from_to, show_words, recipe_in, gen_words};
 ghost use Rattle.fab_top.specs.ReadWords.{or_unknown, wants_memory};
 ghost use Rattle.fab_text.specs.Fields.{hex};
 ghost use Rattle.fab_text.specs.Readings.{Gives};
 ghost use Rattle.fab_model.specs.Topology.{lid_id};
 
 use crate::command::Command;
-use crate::engine_words::{demo_words, route_words};
+use crate::engine_words::{demo_words, lanes_in, route_words};
 use fab_model::Lid;
 use fab_report::{Kind, Recipe};
 use fab_text::{read_dec, read_hex};
@@ -98,6 +98,42 @@ fn on_two_files(others: &[String], command: Command) -> Option<Command>
     are_two_files(others).then_some(command)
 }
 
+/// A lane count behind its flag.
+fn flagged_lanes(flag: &str, count: &str) -> Option<u8>
+    ensures { result ≡ flagged_lanes flag.now count.now }
+{
+    if flag != "--lanes" {
+        return None;
+    }
+    lanes_in(count)
+}
+
+/// Whether each of three words names a file.
+fn are_three_files(first: &str, second: &str, third: &str) -> bool
+    ensures { result ≡ are_three_files first.now second.now third.now }
+{
+    is_file(first) && is_file(second) && is_file(third)
+}
+
+fn repair_words(others: &[String]) -> Option<Command>
+    ensures { result ≡ repair_words (texts others.now) }
+{
+    match others {
+        [fabric, plan, failed, flag, count] => {
+            let lanes = flagged_lanes(flag.as_str(), count.as_str())?;
+            are_three_files(fabric.as_str(), plan.as_str(), failed.as_str()).then_some(
+                Command::Repair {
+                    fabric: 1,
+                    plan: 2,
+                    failed: 3,
+                    lanes,
+                },
+            )
+        }
+        _ => None,
+    }
+}
+
 #[tactic(auto, using(crate::proofs::Wording::show_to_missing, crate::proofs::Wording::show_both))]
 fn show_from_to(from: &str, to: &str) -> Option<Command>
     ensures { result ≡ show_from_to (lid_in from.now) (lid_in to.now) }
@@ -171,6 +207,7 @@ fn command_of(alloc: Global, words: &[String]) -> Result<Option<Command>, AllocE
         "route" => route_words(alloc, others),
         "certify" => Ok(on_two_files(others, Command::Certify { fabric: 1, plan: 2 })),
         "convert" => Ok(on_two_files(others, Command::Convert { fabric: 1, plan: 2 })),
+        "repair" => Ok(repair_words(others)),
         "cut" => Ok(on_two_files(
             others,
             Command::Cut {

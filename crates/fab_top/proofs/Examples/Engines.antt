@@ -3,7 +3,7 @@ use Rattle.std.proofs.Common.{◌≡◌, [], ◌∷◌, codes, refl}
 use Rattle.std.specs.Prelude.{None, Some}
 use Rattle.fab_report.specs.declared.recipe.Kind.TheVariants.{Tree}
 use Rattle.fab_top.specs.declared.command.Command.TheVariants.{Route, Demo}
-use Rattle.fab_top.specs.declared.command.Engine.TheVariants.{MinHop, Dor, Sssp, Updn, Lash, Dfsssp}
+use Rattle.fab_top.specs.declared.command.Engine.TheVariants.{MinHop, Dor, Sssp, Updn, Lash, Dfsssp, Nue}
 use Rattle.fab_top.specs.Words.{command_of}
 
 route_dor : command_of (codes "route" ∷ codes "dor" ∷ codes "F" ∷ []) ≡ Some (Route 2 Dor)
@@ -35,6 +35,9 @@ route_lash = refl
 
 route_dfsssp : command_of (codes "route" ∷ codes "dfsssp" ∷ codes "F" ∷ codes "--lanes" ∷ codes "1" ∷ []) ≡ Some (Route 2 (Dfsssp 1))
 route_dfsssp = refl
+
+route_nue : command_of (codes "route" ∷ codes "nue" ∷ codes "F" ∷ codes "--lanes" ∷ codes "2" ∷ []) ≡ Some (Route 2 (Nue 2))
+route_nue = refl
 
 lash_takes_lanes : command_of (codes "route" ∷ codes "lash" ∷ codes "F" ∷ []) ≡ None
 lash_takes_lanes = refl

@@ -29,7 +29,7 @@ use Rattle.fab_top.specs.Texts.{verdict_text}
 use Rattle.fab_top.proofs.Steps.AfterFiles.{HasRightAnswer}
 use Rattle.fab_top.proofs.Certifying.{plan_keeps, plan_is_small}
 use Rattle.fab_top.proofs.Steps.Concluding.{found_at_most_1}
-use Rattle.fab_top.proofs.Laying.EnginePlans.{laid_in_order, one_laid, one_refusal, lays_or_refuses, refusal_is, engine_answers}
+use Rattle.fab_top.proofs.Laying.EnginePlans.{laid_in_order, laid_certified, one_laid, one_refusal, lays_or_refuses, refusal_is, refuses_never, engine_answers}
 use Rattle.fab_top.proofs.Generating.{done_is_small}
 use Rattle.fab_top.proofs.Judging.{true_verdict}
 
@@ -94,10 +94,22 @@ pub route_keeps : (engine : Engine) (t : Topology) (a : Answer) → IsFabric t �
 route_keeps engine t a fabric (inl x) =
     let order = laid_in_order t engine x.0 fabric x.1 in
     let again = plan_keeps t x.0 a fabric order.fits order.tidy x.2 in
-    record { done = inl again.0; nothing = λ other. absurd (other again.0); laid = λ is. (x.0, x.1, order.good, again.1) }
+    record {
+      done = inl again.0;
+      nothing = λ other. absurd (other again.0);
+      laid = λ is. (x.0, x.1, order.good, again.1);
+      certified = λ lanes is. (x.0, again.1, laid_certified t engine x.0 fabric lanes x.1);
+      never_refused = λ never. again.0;
+    }
 route_keeps engine t a fabric (inr x) =
     let refusal = refusal_is t engine a x in
-    record { done = inr x; nothing = λ other. refusal.nothing; laid = λ is. absurd (refusal.not_done is) }
+    record {
+      done = inr x;
+      nothing = λ other. refusal.nothing;
+      laid = λ is. absurd (refusal.not_done is);
+      certified = λ lanes is. absurd (refusal.not_done is);
+      never_refused = λ never. absurd (refuses_never t engine a never x);
+    }
 
 pub route_is_small : (engine : Engine) (t : Topology) (a : Answer) → IsRouteAnswer engine t a → a.status ≤ 3
 route_is_small engine t a is = small_after engine IsPlanText t a (λ p x. plan_is_small t p a x) is
@@ -150,10 +162,10 @@ demo_keeps engine t a fabric (inl x) =
     let counts : List ℕ = summary_text (summary_of t x.0) in
     let text : a.out ≡ counts ++ ok_text x.0.lanes = ap (λ (b : Answer). b.out) x.2.2 ∙ ap (λ (line : List ℕ). counts ++ line) (good_verdict t x.0 x.2.0 fabric x.2.1 good) in
     let is_done : Done a = ap (λ (b : Answer). b.status) x.2.2 in
-    record { done = inl is_done; nothing = λ other. absurd (other is_done); shown = λ is. (x.0, x.1, good, text) }
+    record { done = inl is_done; nothing = λ other. absurd (other is_done); shown = λ is. (x.0, x.1, good, text); never_refused = λ never. is_done }
 demo_keeps engine t a fabric (inr x) =
     let refusal = refusal_is t engine a x in
-    record { done = inr x; nothing = λ other. refusal.nothing; shown = λ is. absurd (refusal.not_done is) }
+    record { done = inr x; nothing = λ other. refusal.nothing; shown = λ is. absurd (refusal.not_done is); never_refused = λ never. absurd (refuses_never t engine a never x) }
 
 pub demo_is_small : (engine : Engine) (t : Topology) (a : Answer) → IsDemoAnswer engine t a → a.status ≤ 3
 demo_is_small engine t a is = small_after engine IsSummary t a (λ p x. summary_is_small t p a x) is

@@ -1,5 +1,5 @@
 -- What holds of each engine: its plan for a fabric is in order, there is one such plan, or else one refusal.
-use Rattle.std.proofs.Common.{◌≡◌, ◌≢◌, ℕ, ◌-◌, ◌<◌, ◌≤◌, ◌⊎◌, inl, inr, Bool, true, false, List, [], length, Option, Some, None, Result, Ok, Err, refl, sym, ◌∙◌, ap, subst, arith, All, IfSome}
+use Rattle.std.proofs.Common.{◌≡◌, ℕ, ◌-◌, ◌<◌, ◌⊎◌, inl, inr, Bool, true, false, List, [], length, Option, Some, None, Result, Ok, Err, refl, sym, ◌∙◌, ap, subst, arith, All, IfSome}
 use Rattle.std.specs.Prelude.{IsFalse}
 use Rattle.fab_model.specs.Topology.{Topology, is_source}
 use Rattle.fab_model.specs.WellFormed.{IsFabric}
@@ -13,9 +13,9 @@ use Rattle.fab_balance.specs.MinHop.{AreMinHopTables, AreDorTables}
 use Rattle.fab_balance.proofs.OneTables.{one_min_hop_table, one_dor_table}
 use Rattle.fab_balance.proofs.Reaching.{nearer_reaches}
 use Rattle.fab_top.specs.declared.command.Engine.{Engine}
-use Rattle.fab_top.specs.declared.command.Engine.TheVariants.{MinHop, Dor, Sssp, Updn, Lash, Dfsssp}
+use Rattle.fab_top.specs.declared.command.Engine.TheVariants.{MinHop, Dor, Sssp, Updn, Lash, Dfsssp, Nue}
 use Rattle.fab_top.specs.Answer.{Answer, no, refused}
-use Rattle.fab_top.specs.Engines.{Lays, RefusesWith, LaysUpDown, RefusesUpDown, LaysLayers, RefusesPair, RefusesRing, IsLaneCount, HasLaneCount}
+use Rattle.fab_top.specs.Engines.{Lays, RefusesWith, LaysUpDown, RefusesUpDown, LaysLayers, RefusesPair, RefusesRing, IsLaneCount, HasLaneCount, has_lanes, never_refuses}
 use Rattle.fab_top.specs.Files.{roots_from}
 use Rattle.fab_top.specs.Headline.{Done, IsGood}
 use Rattle.fab_top.specs.Outcomes.{IsFound}
@@ -42,6 +42,11 @@ use Rattle.fab_dfsssp.specs.declared.breaking.BreakFault.TheVariants as fault
 use Rattle.fab_dfsssp.proofs.Exists.Plans.{dfsssp_plan_or_refusal_exists}
 use Rattle.fab_dfsssp.proofs.Plans.{dfsssp_is_certified, one_dfsssp_plan}
 use Rattle.fab_dfsssp.proofs.Steps as breaking
+use Rattle.fab_depgraph.specs.Listed.{Dependencies}
+use Rattle.fab_nue.specs.NuePlan.{IsNuePlan, IsNueLayout}
+use Rattle.fab_nue.proofs.Plans.CertifiedPlan.{nue_fits, nue_is_tidy}
+use Rattle.fab_nue.proofs.Plans.OverEscape.{nue_is_certified, one_nue_plan}
+use Rattle.fab_nue.proofs.Exists.Plans.{nue_plan_exists}
 use Rattle.fab_top.specs.Texts.{no_legal_route_text, lane_for_pair_text, lane_for_ring_text}
 use Rattle.fab_top.proofs.Laying.Roots.{are_within}
 
@@ -99,6 +104,11 @@ engine_in_order t count Given p fit lanes certified =
       good = inr certified;
     }
 
+-- a good plan with lanes is certified
+certified_of : (t : Topology) (p : Plan) (l : LaneTables) → p.lanes ≡ Some l → IsGood t p → IsCertified t p
+certified_of t p l some (inl plain) = cc
+certified_of t p l some (inr certified) = certified
+
 -- ---- up/down routing
 
 up_down_in_order : (t : Topology) (roots : Result (List ℕ) (List ℕ)) (p : Plan) → IsFabric t → LaysUpDown t roots p → IsInOrder t p
@@ -107,6 +117,10 @@ up_down_in_order t (Ok roots) p fabric laid =
     let reaches : Reaches t p.tables = up_down_reaches t laid.tables.ranks p.tables fabric.rows laid.tables.tables in
     engine_in_order t 1 (λ s lid n. n ≡ 0) p laid.tables.tables.entries.fixed.fits laid.lanes
     (engine_certified t 1 (λ s lid n. n ≡ 0) p fabric.rows reaches (λ s lid n source connected zero. omega (arith, zero)) laid.lanes)
+
+up_down_certified : (t : Topology) (roots : Result (List ℕ) (List ℕ)) (p : Plan) → IsFabric t → LaysUpDown t roots p → IsCertified t p
+up_down_certified t (Err reason) p fabric laid = absurd laid
+up_down_certified t (Ok roots) p fabric laid = certified_of t p laid.lanes.lanes laid.lanes.has_lanes (up_down_in_order t (Ok roots) p fabric laid).good
 
 one_up_down : (t : Topology) (roots : Result (List ℕ) (List ℕ)) (p q : Plan) → IsFabric t → LaysUpDown t roots p → LaysUpDown t roots q → p ≡ q
 one_up_down t (Err reason) p q fabric first second = absurd first
@@ -179,6 +193,27 @@ rings_answer t lanes fabric count = by (dfsssp_plan_or_refusal_exists t lanes fa
     by (inl x) = inl x
     by (inr x) = inr (no (lane_for_ring_text t (lanes - 1) x.0), (x.1.0, x.0, x.1.1, x.1.2, refl))
 
+-- ---- the guarded search
+
+-- without an old plan nothing is kept
+pub nue_laid : (t : Topology) (lanes : ℕ) (kept : List ℕ) (p : Plan) (used : List Dependencies) → IsNueLayout t lanes None kept p used → IsNuePlan t lanes None [] p
+nue_laid t lanes kept p used x = let P : List ℕ → Type 0 = λ k. IsNuePlan t lanes None k p in subst P x.2.keeps (x.0, x.1, x.2)
+
+-- so many lanes as its plans have
+pub nue_lane_count : (t : Topology) (lanes : ℕ) (old : Option Plan) (kept : List ℕ) (p : Plan) → IsNuePlan t lanes old kept p → IsLaneCount lanes
+nue_lane_count t lanes old kept p x = (omega (arith, x.2.plan.fits.whole.count, x.2.plan.lane_count), omega (arith, x.2.plan.fits.whole.count, x.2.plan.lane_count))
+
+nue_in_order : (t : Topology) (lanes : ℕ) (p : Plan) → IsFabric t → IsNuePlan t lanes None [] p → IsInOrder t p
+nue_in_order t lanes p fabric laid =
+    let count : IsLaneCount lanes = nue_lane_count t lanes None [] p laid in
+    record { fits = nue_fits t lanes None [] p laid; tidy = nue_is_tidy t lanes None [] p laid; good = inr (nue_is_certified t lanes None [] p fabric.rows count.0 count.1 laid) }
+
+nue_answer : (t : Topology) (lanes : ℕ) → IsFabric t → IsLaneCount lanes → (p : Plan) × IsNuePlan t lanes None [] p
+nue_answer t lanes fabric count =
+    let made : (kept : List ℕ) × (p : Plan) × IsNuePlan t lanes None kept p = nue_plan_exists t lanes None fabric count.0 count.1 tt in
+    let P : List ℕ → Type 0 = λ k. IsNuePlan t lanes None k made.1 in
+    (made.1, subst P made.2.2.keeps made.2)
+
 -- ---- by engine
 
 pub laid_in_order : (t : Topology) (engine : Engine) (p : Plan) → IsFabric t → Lays t engine p → IsInOrder t p
@@ -188,6 +223,7 @@ laid_in_order t Sssp p fabric laid = without_lanes t p laid.0 laid.1.fixed.fits 
 laid_in_order t (Updn guids) p fabric laid = up_down_in_order t (roots_from 0 t guids) p fabric laid
 laid_in_order t (Lash lanes) p fabric laid = layers_in_order t lanes p fabric laid
 laid_in_order t (Dfsssp lanes) p fabric laid = rings_in_order t lanes p fabric laid
+laid_in_order t (Nue lanes) p fabric laid = nue_in_order t lanes p fabric laid
 
 pub one_laid : (t : Topology) (engine : Engine) (p q : Plan) → IsFabric t → Lays t engine p → Lays t engine q → p ≡ q
 one_laid t MinHop p q fabric first second = same_plan p q (one_min_hop_table t p.tables q.tables fabric.rows first.1 second.1) first.0 second.0
@@ -196,6 +232,7 @@ one_laid t Sssp p q fabric first second = same_plan p q (one_least_weight_tables
 one_laid t (Updn guids) p q fabric first second = one_up_down t (roots_from 0 t guids) p q fabric first second
 one_laid t (Lash lanes) p q fabric first second = one_layered_plan t lanes p q first.0 second.0 fabric.rows first.1 second.1
 one_laid t (Dfsssp lanes) p q fabric first second = one_dfsssp_plan t lanes p q fabric.rows first second
+one_laid t (Nue lanes) p q fabric first second = (one_nue_plan t lanes None [] [] p q fabric.rows (nue_lane_count t lanes None [] p first).0 first second).1
 
 pub one_refusal : (t : Topology) (engine : Engine) (a b : Answer) → IsFabric t → RefusesWith t engine a → RefusesWith t engine b → a ≡ b
 one_refusal t MinHop a b fabric first second = absurd first
@@ -204,6 +241,7 @@ one_refusal t Sssp a b fabric first second = absurd first
 one_refusal t (Updn guids) a b fabric first second = one_up_down_refusal t (roots_from 0 t guids) a b first second
 one_refusal t (Lash lanes) a b fabric first second = one_pair t lanes a b fabric first second
 one_refusal t (Dfsssp lanes) a b fabric first second = one_ring t lanes a b fabric first second
+one_refusal t (Nue lanes) a b fabric first second = absurd first
 
 pub lays_or_refuses : (t : Topology) (engine : Engine) (p : Plan) (a : Answer) → IsFabric t → Lays t engine p → ¬ RefusesWith t engine a
 lays_or_refuses t MinHop p a fabric laid refuses = absurd refuses
@@ -212,6 +250,7 @@ lays_or_refuses t Sssp p a fabric laid refuses = absurd refuses
 lays_or_refuses t (Updn guids) p a fabric laid refuses = up_down_or_refused t (roots_from 0 t guids) p a laid refuses
 lays_or_refuses t (Lash lanes) p a fabric laid refuses = layers_or_refused t lanes p a fabric laid refuses
 lays_or_refuses t (Dfsssp lanes) p a fabric laid refuses = rings_or_refused t lanes p a fabric laid refuses
+lays_or_refuses t (Nue lanes) p a fabric laid refuses = absurd refuses
 
 -- what each refusal is
 pub record IsRefusal (a : Answer) : Type 0 where
@@ -236,6 +275,25 @@ refusal_is t Sssp a refuses = absurd refuses
 refusal_is t (Updn guids) a refuses = up_down_refusal_is t (roots_from 0 t guids) a refuses
 refusal_is t (Lash lanes) a refuses = subst IsRefusal (sym refuses.5) (no_is_refusal (lane_for_pair_text t refuses.1 refuses.2))
 refusal_is t (Dfsssp lanes) a refuses = subst IsRefusal (sym refuses.4) (no_is_refusal (lane_for_ring_text t (lanes - 1) refuses.1))
+refusal_is t (Nue lanes) a refuses = absurd refuses
+
+pub laid_certified : (t : Topology) (engine : Engine) (p : Plan) → IsFabric t → has_lanes engine ≡ true → Lays t engine p → IsCertified t p
+laid_certified t MinHop p fabric lanes laid = cc
+laid_certified t Dor p fabric lanes laid = cc
+laid_certified t Sssp p fabric lanes laid = cc
+laid_certified t (Updn guids) p fabric lanes laid = up_down_certified t (roots_from 0 t guids) p fabric laid
+laid_certified t (Lash count) p fabric lanes laid = certified_of t p laid.1.lanes.lanes laid.1.lanes.has_lanes (layers_in_order t count p fabric laid).good
+laid_certified t (Dfsssp count) p fabric lanes laid = certified_of t p laid.lanes.lanes laid.lanes.has_lanes (rings_in_order t count p fabric laid).good
+laid_certified t (Nue count) p fabric lanes laid = certified_of t p laid.2.plan.lanes laid.2.plan.has_lanes (nue_in_order t count p fabric laid).good
+
+pub refuses_never : (t : Topology) (engine : Engine) (a : Answer) → never_refuses engine ≡ true → ¬ RefusesWith t engine a
+refuses_never t MinHop a never refuses = refuses
+refuses_never t Dor a never refuses = refuses
+refuses_never t Sssp a never refuses = refuses
+refuses_never t (Updn guids) a never refuses = cc
+refuses_never t (Lash lanes) a never refuses = cc
+refuses_never t (Dfsssp lanes) a never refuses = cc
+refuses_never t (Nue lanes) a never refuses = refuses
 
 pub engine_answers : (t : Topology) (engine : Engine) → IsFabric t → HasLaneCount engine → ((p : Plan) × Lays t engine p) ⊎ ((a : Answer) × RefusesWith t engine a)
 unfolding plan_of
@@ -245,3 +303,4 @@ engine_answers t Sssp fabric lanes = let made = least_weight_tables_exist t fabr
 engine_answers t (Updn guids) fabric lanes = up_down_answers t (roots_from 0 t guids) fabric (λ named e. are_within 0 t guids named e)
 engine_answers t (Lash count) fabric lanes = layers_answer t count fabric lanes
 engine_answers t (Dfsssp count) fabric lanes = rings_answer t count fabric lanes
+engine_answers t (Nue count) fabric lanes = inl (nue_answer t count fabric lanes)

@@ -4,6 +4,7 @@
 --     small      a small status
 --     exists     an answer
 use Rattle.std.proofs.Common.{◌≡◌, ℕ, ◌≤◌, List, Result, Ok, Err, refl, sym, subst, ◌∙◌, arith}
+use Rattle.fab_model.specs.declared.rows.Cable.{Cable}
 use Rattle.fab_model.specs.Topology.{Topology, HasNoOwnCable}
 use Rattle.fab_model.specs.WellFormed.{IsFabric}
 use Rattle.fab_tables.specs.declared.plan.Plan.{Plan}
@@ -97,13 +98,19 @@ read_weaker w place rest other a weaker is =
     file_weaker name (w.content place) fabric_in rest other a
     (λ bytes t read. weaker t (record { fabric = fabric_fits name bytes t read; no_own_cable = fabric_has_no_own_cable name bytes t read })) is
 
+pub without_known : (w : Seen) (t : Topology) (place : ℕ) (rest other : Topology → Answer → Type 0) (a : Answer) →
+    ((cables : List Cable) (left : Topology) → without_failed (word_at w.words place) t cables ≡ Ok left → rest left a → other left a) → WithoutFailed w t place rest a → WithoutFailed w t place other a
+without_known w t place rest other a weaker is =
+    let name : List ℕ = word_at w.words place in
+    file_weaker name (w.content place) failed_in (λ cables. After (without_failed name t cables) rest) (λ cables. After (without_failed name t cables) other) a
+    (λ bytes cables read. after_weaker (without_failed name t cables) rest other a (λ left known. weaker cables left known)) is
+
 pub without_weaker : (w : Seen) (t : Topology) (place : ℕ) (rest other : Topology → Answer → Type 0) (a : Answer) → IsReadFabric t → ((left : Topology) → IsReadFabric left → rest left a → other left a) →
     WithoutFailed w t place rest a → WithoutFailed w t place other a
 without_weaker w t place rest other a of weaker is =
     let name : List ℕ = word_at w.words place in
-    file_weaker name (w.content place) failed_in (λ cables. After (without_failed name t cables) rest) (λ cables. After (without_failed name t cables) other) a
-    (λ bytes cables read. after_weaker (without_failed name t cables) rest other a
-    (λ left known. weaker left (record { fabric = left_fits name t left cables of.fabric known; no_own_cable = left_has_no_own_cable name t left cables of.no_own_cable known }))) is
+    without_known w t place rest other a
+    (λ cables left known. weaker left (record { fabric = left_fits name t left cables of.fabric known; no_own_cable = left_has_no_own_cable name t left cables of.no_own_cable known })) is
 
 pub without_one : (w : Seen) (t : Topology) (place : ℕ) (rest : Topology → Answer → Type 0) (a b : Answer) → IsFabric t → IsTold (w.content place) → ((left : Topology) → IsFabric left → rest left a → rest left b → a ≡ b) →
     WithoutFailed w t place rest a → WithoutFailed w t place rest b → a ≡ b
@@ -118,12 +125,17 @@ without_small w t place rest a told small is =
     let name : List ℕ = word_at w.words place in
     file_small name (w.content place) failed_in (λ cables. After (without_failed name t cables) rest) a told (λ cables. after_small (without_failed name t cables) rest a small) is
 
+pub without_leaves : (w : Seen) (t : Topology) (place : ℕ) (rest : Topology → Answer → Type 0) → IsTold (w.content place) →
+    ((cables : List Cable) (left : Topology) → without_failed (word_at w.words place) t cables ≡ Ok left → HasRightAnswer (rest left)) → HasRightAnswer (WithoutFailed w t place rest)
+without_leaves w t place rest told exists =
+    let name : List ℕ = word_at w.words place in
+    file_exists name (w.content place) failed_in (λ cables. After (without_failed name t cables) rest) told
+    (λ bytes cables read. after_exists (without_failed name t cables) rest (λ left known. exists cables left known))
+
 pub without_exists : (w : Seen) (t : Topology) (place : ℕ) (rest : Topology → Answer → Type 0) → IsFabric t → IsTold (w.content place) → ((left : Topology) → IsFabric left → HasRightAnswer (rest left)) →
     HasRightAnswer (WithoutFailed w t place rest)
 without_exists w t place rest fabric told exists =
-    let name : List ℕ = word_at w.words place in
-    file_exists name (w.content place) failed_in (λ cables. After (without_failed name t cables) rest) told
-    (λ bytes cables read. after_exists (without_failed name t cables) rest (λ left known. exists left (left_fits name t left cables fabric known)))
+    without_leaves w t place rest told (λ cables left known. exists left (left_fits (word_at w.words place) t left cables fabric known))
 
 -- ---- a plan of a fabric
 

@@ -1,4 +1,4 @@
-use Rattle.std.proofs.Common.{◌≡◌, ◌≤◌, ◌-◌, ℕ, List, Some, length, take, drop, refl, sym, ap, subst, ◌∙◌, arith, rules}
+use Rattle.std.proofs.Common.{◌-◌, ℕ, List, Some, length, take, drop, sym, ap, subst, ◌∙◌, arith, rules}
 use Rattle.fab_text.specs.Fields.{hex}
 use Rattle.fab_top.proofs.RootWords.{AreRootsSoFar, none_read, other_flag, no_guid, root_read, word_left, all_read, rest_shorter}
 use Rattle.fab_top.proofs.engine_words.roots_in.Goals as goal

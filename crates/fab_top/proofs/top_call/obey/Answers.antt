@@ -26,6 +26,18 @@ convert-requires-clause-fabric g c = (is_spelled c.args.words.now _ _ c.requires
 pub convert-requires-clause-plan : goal.convert-requires-clause-plan
 convert-requires-clause-plan g c = (is_spelled c.args.words.now _ _ c.requires c.in-Convert.is).places.1.0
 
+pub repair-requires-clause-fabric : goal.repair-requires-clause-fabric
+repair-requires-clause-fabric g c = (is_spelled c.args.words.now _ _ c.requires c.in-Repair.is).places.0
+
+pub repair-requires-clause-plan : goal.repair-requires-clause-plan
+repair-requires-clause-plan g c = (is_spelled c.args.words.now _ _ c.requires c.in-Repair.is).places.1.0
+
+pub repair-requires-clause-failed : goal.repair-requires-clause-failed
+repair-requires-clause-failed g c = (is_spelled c.args.words.now _ _ c.requires c.in-Repair.is).places.1.1.0
+
+pub repair-requires-clause-lanes : goal.repair-requires-clause-lanes
+repair-requires-clause-lanes g c = (is_spelled c.args.words.now _ _ c.requires c.in-Repair.is).asks.lanes
+
 pub cut-requires-clause-fabric : goal.cut-requires-clause-fabric
 cut-requires-clause-fabric g c = (is_spelled c.args.words.now _ _ c.requires c.in-Cut.is).places.0
 

@@ -1,6 +1,5 @@
 use Rattle.std.proofs.Common.{◌≡◌, ◌+◌, ◌++◌, ◌∷◌, [], List, Err, ap, sym, subst, ◌∙◌, arith, rules}
 use Rattle.fab_model.specs.declared.rows.SwitchId.{SwitchId}
-use Rattle.fab_top.specs.FaultTexts.{unknown_root_text}
 use Rattle.fab_top.proofs.Laying.Roots.{RootsSoFar, none_so_far, unknown, known, all_known}
 use Rattle.fab_top.proofs.up_down.known_roots.Goals as goal
 

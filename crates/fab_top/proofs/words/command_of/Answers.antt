@@ -9,6 +9,7 @@ returns-in_default-as_str c =
     (λ e. c.in_default-as_str.not-route (c.as_str.ensures.value ∙ e))
     (λ e. c.in_default-as_str.not-certify (c.as_str.ensures.value ∙ e))
     (λ e. c.in_default-as_str.not-convert (c.as_str.ensures.value ∙ e))
+    (λ e. c.in_default-as_str.not-repair (c.as_str.ensures.value ∙ e))
     (λ e. c.in_default-as_str.not-cut (c.as_str.ensures.value ∙ e))
     (λ e. c.in_default-as_str.not-show (c.as_str.ensures.value ∙ e))
     (λ e. c.in_default-as_str.not-load (c.as_str.ensures.value ∙ e))

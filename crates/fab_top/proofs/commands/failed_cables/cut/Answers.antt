@@ -1,25 +1,20 @@
-use Rattle.std.proofs.Common.{◌≡◌, ◌∙◌, ◌∷◌, [], List, ℕ, Result, subst}
+use Rattle.std.proofs.Common.{◌∙◌, ◌∷◌, [], List, ℕ}
 use Rattle.fab_model.specs.declared.rows.Cable.{Cable}
 use Rattle.fab_model.specs.Topology.{Topology}
-use Rattle.fab_top.specs.declared.outcome.Outcome.{Outcome}
-use Rattle.fab_top.specs.declared.outcome.Stop.{Stop}
 use Rattle.fab_top.specs.Answer.{Answer}
 use Rattle.fab_top.specs.Answers.{IsFabricText}
-use Rattle.fab_top.specs.Files.{fabric_in, failed_in, without_failed}
+use Rattle.fab_top.specs.Files.{fabric_in, failed_in}
 use Rattle.fab_top.specs.Headline.{WritesTruly}
-use Rattle.fab_top.specs.Outcomes.{FindsRightly}
-use Rattle.fab_top.specs.Seen.{Seen, After, WithoutFailed, word_at}
+use Rattle.fab_top.specs.Seen.{Seen, WithoutFailed}
 use Rattle.fab_top.proofs.Steps.Concluding.{goes_on, stops, found}
 use Rattle.fab_top.proofs.Running.{word_is}
+use Rattle.fab_top.proofs.Steps.AfterList.{OfList, found_likewise}
 use Rattle.fab_top.proofs.Steps.Taking.{place_within}
 use Rattle.fab_top.proofs.commands.failed_cables.cut.Goals as goal
 
--- what is said of the fabric without the cables is said of the fabric, and then of its list
+-- what is said of the fabric without the cables is said of the fabric
 abbrev OfFabric : ℕ → (Topology → Answer → Type 0) → Topology → Seen → Answer → Type 0
 OfFabric failed rest t w answer = WithoutFailed w t failed rest answer
-
-abbrev OfList : ℕ → (Topology → Answer → Type 0) → Topology → List Cable → Seen → Answer → Type 0
-OfList failed rest t cables w answer = After (without_failed (word_at w.words failed) t cables) rest answer
 
 pub returns-in_err-fabric : goal.returns-in_err-fabric
 returns-in_err-fabric g c =
@@ -30,15 +25,6 @@ returns-in_err-cables g c =
     goes_on c.args.fabric fabric_in (c.args.failed ∷ []) (OfFabric c.args.failed IsFabricText) (OfFabric c.args.failed WritesTruly) _ _ _ _ _ _ _ _ c.in_ok-fabric.ensures.taken c.in_ok-fabric.ensures.told
     (stops c.args.failed failed_in [] (OfList c.args.failed IsFabricText _) (OfList c.args.failed WritesTruly _) _ _ _ _ _ _ c.in_err-cables.ensures.taken c.from_residual-in_err-cables.ensures.1)
 
--- what is found under one name and of one list is found under an equal name and of an equal list
-found_likewise : (name word : List ℕ) (t : Topology) (cables listed : List Cable) (result : Result Outcome Stop) → name ≡ word → cables ≡ listed →
-    FindsRightly (After (without_failed name t cables) IsFabricText) (After (without_failed name t cables) WritesTruly) result →
-    FindsRightly (After (without_failed word t listed) IsFabricText) (After (without_failed word t listed) WritesTruly) result
-found_likewise name word t cables listed result same_name same_list finds =
-    let P : List ℕ → Type 0 = λ n. FindsRightly (After (without_failed n t cables) IsFabricText) (After (without_failed n t cables) WritesTruly) result in
-    let Q : List Cable → Type 0 = λ cs. FindsRightly (After (without_failed word t cs) IsFabricText) (After (without_failed word t cs) WritesTruly) result in
-    subst Q same_list (subst P same_name finds)
-
 pub returns : goal.returns
 returns g c =
     let t : Topology = c.in_ok-fabric.fabric in
@@ -46,4 +32,4 @@ returns g c =
     goes_on c.args.fabric fabric_in (c.args.failed ∷ []) (OfFabric c.args.failed IsFabricText) (OfFabric c.args.failed WritesTruly) _ _ _ _ _ _ t _ c.in_ok-fabric.ensures.taken c.in_ok-fabric.ensures.told
     (goes_on c.args.failed failed_in [] (OfList c.args.failed IsFabricText t) (OfList c.args.failed WritesTruly t) _ _ _ _ _ _ cables _ c.in_ok-cables.ensures.taken c.in_ok-cables.ensures.told
     (found (OfList c.args.failed IsFabricText t cables) (OfList c.args.failed WritesTruly t cables) _ _ _ _
-    (found_likewise _ _ t _ cables c.text_without.result (c.as_str.ensures.value ∙ word_is _ _ _ (place_within c.args.words.now c.args.failed c.requires.failed) c.index-words-failed.is) c.deref.ensures.value c.text_without.ensures)))
+    (found_likewise IsFabricText WritesTruly _ _ t _ cables c.text_without.result (c.as_str.ensures.value ∙ word_is _ _ _ (place_within c.args.words.now c.args.failed c.requires.failed) c.index-words-failed.is) c.deref.ensures.value c.text_without.ensures)))
