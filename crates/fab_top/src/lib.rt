@@ -12,6 +12,8 @@ mod laned;
 mod laws;
 mod outcome;
 mod outputs;
+#[cfg(test)]
+mod outside_tests;
 mod report_texts;
 mod routing;
 #[cfg(test)]

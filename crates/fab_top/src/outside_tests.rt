@@ -1,0 +1,211 @@
+//! A table of runs on a ring of five, with each call to the outside failing in turn: each fetch, each put to the output,
+//! and the one to the error output.
+
+use crate::run;
+use fab_io::{MemoryShelf, MemorySink};
+use std::alloc::Global;
+use std::test::Fail;
+
+/// The words of a run, and the names of the files that it fetches, in their order.
+struct Row {
+    words: &'static [&'static str],
+    files: &'static [&'static str],
+}
+
+const ROWS: [Row; 9] = [
+    Row {
+        words: &["check", "RING", "PLAN"],
+        files: &["RING", "PLAN"],
+    },
+    Row {
+        words: &["route", "nue", "RING", "--lanes", "1"],
+        files: &["RING"],
+    },
+    Row {
+        words: &["certify", "RING", "PLAN"],
+        files: &["RING", "PLAN"],
+    },
+    Row {
+        words: &["repair", "RING", "PLAN", "FAILED", "--lanes", "1"],
+        files: &["RING", "PLAN", "FAILED"],
+    },
+    Row {
+        words: &["cut", "RING", "FAILED"],
+        files: &["RING", "FAILED"],
+    },
+    Row {
+        words: &["show", "RING", "PLAN", "6", "8"],
+        files: &["RING", "PLAN"],
+    },
+    Row {
+        words: &["load", "RING", "PLAN"],
+        files: &["RING", "PLAN"],
+    },
+    Row {
+        words: &["convert", "RING", "PLAN"],
+        files: &["RING", "PLAN"],
+    },
+    Row {
+        words: &["demo", "ring", "5", "1", "0", "nue", "1"],
+        files: &[],
+    },
+];
+
+/// The call that fails: by its number, and after how many bytes.
+#[derive(Clone, Copy)]
+enum Failing {
+    Nothing,
+    Fetch(u32),
+    /// A fetch, and the put of the line that tells it, after two bytes.
+    FetchAndLine(u32),
+    Output(u32, usize),
+    /// The first put to the error output.
+    Error(usize),
+}
+
+/// What a run leaves.
+#[derive(Drop)]
+struct Left {
+    status: u8,
+    out: MemorySink,
+    err: MemorySink,
+}
+
+fn is_same(one: &Left, other: &Left) -> bool {
+    one.status == other.status
+        && one.out.bytes() == other.out.bytes()
+        && one.err.bytes() == other.err.bytes()
+}
+
+/// A ring of five and its plan by Nue on one lane, as texts.
+#[derive(Drop)]
+struct Texts {
+    ring: MemorySink,
+    plan: MemorySink,
+}
+
+fn texts_of_ring(alloc: Global) -> Result<Texts, Fail> {
+    let mut shelf = MemoryShelf::new(alloc);
+    let ring = run_with(
+        alloc,
+        &mut shelf,
+        &["gen", "ring", "5", "1", "0"],
+        Failing::Nothing,
+    )?;
+    shelf.add("RING", ring.out.bytes())?;
+    let words = &["route", "nue", "RING", "--lanes", "1"];
+    let plan = run_with(alloc, &mut shelf, words, Failing::Nothing)?;
+    Ok(Texts {
+        ring: ring.out,
+        plan: plan.out,
+    })
+}
+
+fn shelf_of(alloc: Global, texts: &Texts) -> Result<MemoryShelf, Fail> {
+    let mut shelf = MemoryShelf::new(alloc);
+    shelf.add("RING", texts.ring.bytes())?;
+    shelf.add("PLAN", texts.plan.bytes())?;
+    shelf.add("FAILED", b"0x10000 1\n")?;
+    Ok(shelf)
+}
+
+fn run_with(
+    alloc: Global,
+    shelf: &mut MemoryShelf,
+    line: &[&str],
+    failing: Failing,
+) -> Result<Left, Fail> {
+    let mut words = Vec::new(alloc);
+    for word in line {
+        words.push(String::from_str(alloc, word)?)?;
+    }
+    let mut out = MemorySink::new(alloc);
+    let mut err = MemorySink::new(alloc);
+    match failing {
+        Failing::Nothing => {}
+        Failing::Fetch(call) => shelf.fail(call)?,
+        Failing::FetchAndLine(call) => {
+            shelf.fail(call)?;
+            err.fail(1, 2)?;
+        }
+        Failing::Output(call, kept) => out.fail(call, kept)?,
+        Failing::Error(kept) => err.fail(1, kept)?,
+    }
+    let status = run(alloc, &words, shelf, &mut out, &mut err);
+    Ok(Left { status, out, err })
+}
+
+fn left_on_ring(
+    alloc: Global,
+    texts: &Texts,
+    line: &[&str],
+    failing: Failing,
+) -> Result<Left, Fail> {
+    let mut shelf = shelf_of(alloc, texts)?;
+    run_with(alloc, &mut shelf, line, failing)
+}
+
+#[test]
+fn each_fetch_fails(rt: HostRuntime) -> Result<(), Fail> {
+    let alloc = rt.alloc();
+    let texts = texts_of_ring(alloc)?;
+    for row in &ROWS {
+        let whole = left_on_ring(alloc, &texts, row.words, Failing::Nothing)?;
+        assert_eq!(rt; whole.status, 0);
+        for call in 1..5 {
+            let unread = left_on_ring(alloc, &texts, row.words, Failing::Fetch(call))?;
+            let Some(name) = row.files.get(call as usize - 1) else {
+                // No fetch has this number.
+                assert!(rt; is_same(&unread, &whole));
+                continue;
+            };
+            assert_eq!(rt; unread.status, 4);
+            assert!(rt; unread.out.bytes().is_empty());
+            assert!(rt; unread.err.bytes().starts_with(name.as_bytes()));
+            assert!(rt; unread.err.bytes().ends_with(b": cannot be read\n"));
+            let untold = left_on_ring(alloc, &texts, row.words, Failing::FetchAndLine(call))?;
+            assert_eq!(rt; untold.status, 4);
+            assert!(rt; untold.out.bytes().is_empty());
+            assert_eq!(rt; untold.err.bytes().len(), 2);
+        }
+    }
+    Ok(())
+}
+
+#[test]
+fn each_put_fails(rt: HostRuntime) -> Result<(), Fail> {
+    let alloc = rt.alloc();
+    let texts = texts_of_ring(alloc)?;
+    for row in &ROWS {
+        let whole = left_on_ring(alloc, &texts, row.words, Failing::Nothing)?;
+        for kept in [0, 5] {
+            let mut passed = false;
+            for call in 1..200 {
+                let cut = left_on_ring(alloc, &texts, row.words, Failing::Output(call, kept))?;
+                if cut.status != 5 {
+                    // No put has this number.
+                    assert!(rt; is_same(&cut, &whole));
+                    passed = true;
+                    break;
+                }
+                assert!(rt; whole.out.bytes().starts_with(cut.out.bytes()));
+                assert!(rt; cut.err.bytes().is_empty());
+            }
+            assert!(rt; passed);
+        }
+    }
+    Ok(())
+}
+
+#[test]
+fn the_kept_line_fails(rt: HostRuntime) -> Result<(), Fail> {
+    let alloc = rt.alloc();
+    let texts = texts_of_ring(alloc)?;
+    let words = &["repair", "RING", "PLAN", "FAILED", "--lanes", "1"];
+    let whole = left_on_ring(alloc, &texts, words, Failing::Nothing)?;
+    let cut = left_on_ring(alloc, &texts, words, Failing::Error(4))?;
+    assert_eq!(rt; cut.status, 5);
+    assert_eq!(rt; cut.out.bytes(), whole.out.bytes());
+    assert_eq!(rt; cut.err.bytes(), b"kept".as_slice());
+    Ok(())
+}
