@@ -54,7 +54,7 @@ fn push_cable(raw: &mut Raw, i: u32) -> Result<(), AllocError>
     raw.push_link(link(line + 2, 1, i + 1, (NodeKind::Switch, 0x10, i + 1), 0))
 }
 
-// A terminal at the second switch, in three lines below those of the cables.
+// A terminal at port 3 or 4 of the second switch, in three lines below those of the cables.
 fn push_terminal(raw: &mut Raw, i: u32) -> Result<(), AllocError>
     requires few { i < 2 }
     requires line { last_line raw.old ≤ 6 + 3 * i }
@@ -69,20 +69,34 @@ fn push_terminal(raw: &mut Raw, i: u32) -> Result<(), AllocError>
     raw.push_link(link(line + 3, i + 2, 1, (NodeKind::Switch, 0x11, i + 3), i + 3))
 }
 
-// Switches with LIDs 1 and 2; the cables at ports 1 and 2, the terminals with LIDs 3 and 4 at ports 3 and 4.
-fn joined(alloc: Global, cables: u32, terminals: u32) -> Result<Fabric, Fail>
-    requires cables { cables ≤ 2 }
-    requires terminals { terminals ≤ 2 }
+// Switches with LIDs 1 and 2.
+fn push_switches(raw: &mut Raw) -> Result<(), AllocError>
+    requires line { last_line raw.old ≡ 0 }
+    requires nodes { length raw.old.nodes ≡ 0 }
+    ensures line { OnOk result (last_line raw.new ≤ 2) }
+    ensures nodes { OnOk result (length raw.new.nodes ≡ 2) }
 {
-    let mut raw = Raw::new(alloc);
     raw.push_node(node(1, NodeKind::Switch, 0x10, 1))?;
-    raw.push_node(node(2, NodeKind::Switch, 0x11, 2))?;
-    for i in 0..cables {
-        push_cable(&mut raw, i)?;
-    }
-    for i in 0..terminals {
-        push_terminal(&mut raw, i)?;
-    }
+    raw.push_node(node(2, NodeKind::Switch, 0x11, 2))
+}
+
+// One cable at port 1, and a terminal with LID 3.
+fn joined_once(alloc: Global) -> Result<Fabric, Fail> {
+    let mut raw = Raw::new(alloc);
+    push_switches(&mut raw)?;
+    push_cable(&mut raw, 0)?;
+    push_terminal(&mut raw, 0)?;
+    Ok(Fabric::build(alloc, &raw)?)
+}
+
+// Cables at ports 1 and 2, and terminals with LIDs 3 and 4.
+fn joined_twice(alloc: Global) -> Result<Fabric, Fail> {
+    let mut raw = Raw::new(alloc);
+    push_switches(&mut raw)?;
+    push_cable(&mut raw, 0)?;
+    push_cable(&mut raw, 1)?;
+    push_terminal(&mut raw, 0)?;
+    push_terminal(&mut raw, 1)?;
     Ok(Fabric::build(alloc, &raw)?)
 }
 
@@ -107,7 +121,7 @@ fn cut_off(switch: u32, port: u8) -> SweepRow {
 
 #[test]
 fn the_only_cable_fails(rt: HostRuntime) -> Result<(), Fail> {
-    let fabric = joined(rt.alloc(), 1, 1)?;
+    let fabric = joined_once(rt.alloc())?;
     let swept_cables = swept(rt.alloc(), &fabric, Failing::Cables)?;
     assert_eq!(rt; swept_cables.rows(), [cut_off(0, 1)].as_slice());
     let swept_switches = swept(rt.alloc(), &fabric, Failing::Switches)?;
@@ -118,7 +132,7 @@ fn the_only_cable_fails(rt: HostRuntime) -> Result<(), Fail> {
 // All routes go by the first cable: where it fails all LIDs are laid anew, where the other one fails all stay.
 #[test]
 fn one_of_two_cables_fails(rt: HostRuntime) -> Result<(), Fail> {
-    let fabric = joined(rt.alloc(), 2, 2)?;
+    let fabric = joined_twice(rt.alloc())?;
     let swept_cables = swept(rt.alloc(), &fabric, Failing::Cables)?;
     let row = SweepRow {
         switch: SwitchId(0),
