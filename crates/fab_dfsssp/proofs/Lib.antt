@@ -14,7 +14,7 @@ pub mod RoutesOnce
 pub mod LaneCounts
 pub mod CountedLanes
 pub mod PathsCounted
-pub mod PathLists
+pub mod PathsOver
 pub mod Counting
 pub mod Around
 pub mod Releveling

@@ -1,5 +1,5 @@
--- The levels of the paths that are listed with an edge go up by one, path after path.
-use Rattle.std.proofs.Common.{◌≡◌, ℕ, ◌+◌, ◌<◌, ◌≤◌, inl, inr, length, sym, ◌∙◌, subst, arith, Some, Contains, true, false}
+-- The levels of the paths over an edge go up by one, path after path.
+use Rattle.std.proofs.Common.{◌≡◌, ℕ, ◌+◌, ◌<◌, ◌≤◌, inl, inr, length, sym, ◌∙◌, subst, arith, Some, Contains, true, false, List}
 use Rattle.std.specs.Prelude.{slice_get, nat_eq}
 use Rattle.std.specs.Option.{option_eq}
 use Rattle.std.proofs.lemmas.Option.{same_Some}
@@ -12,14 +12,13 @@ use Rattle.fab_tables.specs.Route.{route}
 use Rattle.fab_tables.proofs.Verdicts.CertifiedLaws.{contains_of, get_of}
 use Rattle.fab_sssp.specs.LeastWeightTables.{AreLeastWeightTables}
 use Rattle.fab_dfsssp.specs.declared.counted_edges.CountedEdges.{CountedEdges}
-use Rattle.fab_dfsssp.specs.declared.path_index.Path.{Path}
-use Rattle.fab_dfsssp.specs.declared.path_index.PathIndex.{PathIndex}
+use Rattle.fab_dfsssp.specs.declared.paths_over.Path.{Path}
 use Rattle.fab_dfsssp.specs.Assignments.{contains_edge}
 use Rattle.fab_dfsssp.specs.CountedEdges.{times_of, IsWhole}
 use Rattle.fab_dfsssp.specs.LaneCounts.{times_along, CountsLane}
 use Rattle.fab_dfsssp.specs.LevelPaths.{level_paths_over}
 use Rattle.fab_dfsssp.specs.Moving.{IsLevelOver, MovesLevels}
-use Rattle.fab_dfsssp.specs.PathIndex.{paths_at, IndexesLane}
+use Rattle.fab_dfsssp.specs.PathsOver.{IsPathOf, HasPath, ArePathsOver}
 use Rattle.fab_dfsssp.proofs.LaneCounts.{path_leaves}
 use Rattle.fab_dfsssp.proofs.Levels.{leveled, level_other}
 use Rattle.fab_dfsssp.proofs.Releveling.{IsReleveled, IsOfFirst, IsAmongFirst, all_releveled, path_left, path_set}
@@ -50,41 +49,41 @@ module _ (t : Topology) (e : Entries) (lane : ℕ) (edge : ℕ × ℕ) (old : La
     stays = λ s lid not. elim (so_far.either s lid) [ inl given ↦ absurd (not given.0) | inr stays ↦ stays ];
   }
 
-  -- all paths of the level are among those that are listed
-  pub listed_moved : (i : PathIndex) → IndexesLane t e old lane i → (k : ℕ) (new : LaneTables) → length (paths_at i edge) ≤ k → IsReleveled t Over (IsAmongFirst (paths_at i edge) k) (lane + 1) old new →
+  -- all paths of the level over the edge are among these
+  pub listed_moved : (paths : List Path) → ArePathsOver t e edge paths → (k : ℕ) (new : LaneTables) → length paths ≤ k → IsReleveled t Over (IsAmongFirst paths k) (lane + 1) old new →
       MovesLevels t e lane edge old new
-  listed_moved i lists k new past so_far = record {
+  listed_moved paths lists k new past so_far = record {
     over = λ s lid over.
-        (let p : (p : Path) × Contains (paths_at i edge) p × (p.from.0 ≡ s) × (p.lid.0 ≡ lid) = lists.complete edge s lid over.0 over.1 in
-        so_far.done s lid (p.0, p.1.0, omega (arith, p.1.1, past), get_of (paths_at i edge) p.1.0 p.0 p.1.1 p.1.2, p.2, p.3) over);
+        (let p : HasPath paths s lid = lists.complete s lid (over_in_use s lid over) over.1 in
+        so_far.done s lid (p.0, p.1.0, omega (arith, p.1.1, past), get_of paths p.1.0 p.0 p.1.1 p.1.2, p.2, p.3) over);
     stays = λ s lid not. elim (so_far.either s lid) [ inl given ↦ absurd (not given.0) | inr stays ↦ stays ];
   }
 
--- the next path that is listed with the edge
-module _ (t : Topology) (e : Entries) (good : IsWellFormed t) (tables : AreLeastWeightTables t e) (lane : ℕ) (small : lane < 15) (edge : ℕ × ℕ) (old : LaneTables) (fits : LanesFit t old) (i : PathIndex)
-    (lists : IndexesLane t e old lane i) (now : LaneTables) (k : ℕ) (path : Path) (at : slice_get (paths_at i edge) k ≡ Some path)
-    (so_far : IsReleveled t (λ s lid. IsLevelOver t e old lane edge s lid) (IsAmongFirst (paths_at i edge) k) (lane + 1) old now) where
-  pub listed_here : (path.from.0 < length t.switches) × Contains (lids_of t) path.lid.0 × (contains_edge edge (route t e path.from.0 path.lid.0).channels ≡ true)
-  listed_here = lists.sound edge path (contains_of (paths_at i edge) k path at)
+-- the next path over the edge
+module _ (t : Topology) (e : Entries) (good : IsWellFormed t) (tables : AreLeastWeightTables t e) (lane : ℕ) (small : lane < 15) (edge : ℕ × ℕ) (old : LaneTables) (fits : LanesFit t old) (paths : List Path)
+    (lists : ArePathsOver t e edge paths) (now : LaneTables) (k : ℕ) (path : Path) (at : slice_get paths k ≡ Some path)
+    (so_far : IsReleveled t (λ s lid. IsLevelOver t e old lane edge s lid) (IsAmongFirst paths k) (lane + 1) old now) where
+  pub listed_here : IsPathOf t path × (contains_edge edge (route t e path.from.0 path.lid.0).channels ≡ true)
+  listed_here = lists.sound path (contains_of paths k path at)
 
   -- stays where it left the lane before
-  pub stays_here : option_eq nat_eq (level now path.from.0 path.lid.0) (Some lane) ≡ false → IsReleveled t (λ s lid. IsLevelOver t e old lane edge s lid) (IsAmongFirst (paths_at i edge) (k + 1)) (lane + 1) old now
+  pub stays_here : option_eq nat_eq (level now path.from.0 path.lid.0) (Some lane) ≡ false → IsReleveled t (λ s lid. IsLevelOver t e old lane edge s lid) (IsAmongFirst paths (k + 1)) (lane + 1) old now
   stays_here off =
-      path_left t (λ s lid. IsLevelOver t e old lane edge s lid) (lane + 1) old now (paths_at i edge) k path at so_far
-      (left_now t e lane edge old fits (IsAmongFirst (paths_at i edge) k) now so_far path.from.0 path.lid.0 off)
+      path_left t (λ s lid. IsLevelOver t e old lane edge s lid) (lane + 1) old now paths k path at so_far
+      (left_now t e lane edge old fits (IsAmongFirst paths k) now so_far path.from.0 path.lid.0 off)
 
   module _ (on : level now path.from.0 path.lid.0 ≡ Some lane) where
     -- or moves
-    pub moves_here : IsReleveled t (λ s lid. IsLevelOver t e old lane edge s lid) (IsAmongFirst (paths_at i edge) (k + 1)) (lane + 1) old (with_level now path.from.0 path.lid.0 (Some (lane + 1)))
+    pub moves_here : IsReleveled t (λ s lid. IsLevelOver t e old lane edge s lid) (IsAmongFirst paths (k + 1)) (lane + 1) old (with_level now path.from.0 path.lid.0 (Some (lane + 1)))
     moves_here =
-        path_set t (λ s lid. IsLevelOver t e old lane edge s lid) (lane + 1) old now (paths_at i edge) k path at so_far listed_here.0 listed_here.1 (omega (arith, small))
-        (over_now t e lane edge old fits (IsAmongFirst (paths_at i edge) k) now so_far path.from.0 path.lid.0 on listed_here.2)
+        path_set t (λ s lid. IsLevelOver t e old lane edge s lid) (lane + 1) old now paths k path at so_far listed_here.0.0 listed_here.0.1 (omega (arith, small))
+        (over_now t e lane edge old fits (IsAmongFirst paths k) now so_far path.from.0 path.lid.0 on listed_here.1)
 
     pub leaves_here : (other : ℕ × ℕ) →
         level_paths_over t e (with_level now path.from.0 path.lid.0 (Some (lane + 1))) lane other + times_along other (route t e path.from.0 path.lid.0).channels ≡ level_paths_over t e now lane other
     leaves_here other =
-        let in_use : Contains (lids_of t) path.lid.0 = listed_here.1 in
-        path_leaves t e good tables now so_far.fits path.from.0 path.lid.0 in_use.0 lane (lane + 1) listed_here.0 (get_of (lids_of t) in_use.0 path.lid.0 in_use.1 in_use.2) (λ same. omega (arith, same)) on other
+        let in_use : Contains (lids_of t) path.lid.0 = listed_here.0.1 in
+        path_leaves t e good tables now so_far.fits path.from.0 path.lid.0 in_use.0 lane (lane + 1) listed_here.0.0 (get_of (lids_of t) in_use.0 path.lid.0 in_use.1 in_use.2) (λ same. omega (arith, same)) on other
 
     -- the counts of the lane follow
     pub counts_here : (counted new : CountedEdges) → CountsLane t e now lane counted → IsWhole new → length new.heads ≡ length counted.heads →

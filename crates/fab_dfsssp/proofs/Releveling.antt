@@ -10,7 +10,7 @@ use Rattle.fab_tables.specs.Fit.{LanesFit}
 use Rattle.fab_tables.proofs.Rows.LaneSets.{level_set_kept}
 use Rattle.fab_tables.proofs.Rows.Cells.{one_level_changes}
 use Rattle.fab_tables.proofs.Verdicts.CertifiedLaws.{get_of}
-use Rattle.fab_dfsssp.specs.declared.path_index.Path.{Path}
+use Rattle.fab_dfsssp.specs.declared.paths_over.Path.{Path}
 
 -- a level that is over is given where it is done
 pub record IsReleveled (t : Topology) (Over : ℕ → ℕ → Type 0) (Done : ℕ → ℕ → Type 0) (n : ℕ) (old now : LaneTables) : Type 0 where

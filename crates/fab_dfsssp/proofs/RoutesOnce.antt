@@ -23,7 +23,7 @@ abbrev pub one_if : Bool → ℕ
 one_if b = if b then 1 else 0
 
 -- each element stands at one place
-abbrev StandsOnce : List ℕ → Type 0
+abbrev pub StandsOnce : List ℕ → Type 0
 StandsOnce cs = (i j c : ℕ) → slice_get cs i ≡ Some c → slice_get cs j ≡ Some c → i ≡ j
 
 times_once : (edge : ℕ × ℕ) (cs : List ℕ) → StandsOnce cs → times_along edge cs ≡ one_if (contains_edge edge cs)
@@ -47,7 +47,7 @@ times_once edge (c ∷ d ∷ rest) once = go (times_once edge (d ∷ rest) (λ i
         zero_plus n = omega arith
 
 -- behind a channel of a delivered route comes what is behind it wherever it stands
-delivered_once : (t : Topology) (e : Entries) (s lid : ℕ) → (route t e s lid).end ≡ Delivered → StandsOnce (route t e s lid).channels
+pub delivered_once : (t : Topology) (e : Entries) (s lid : ℕ) → (route t e s lid).end ≡ Delivered → StandsOnce (route t e s lid).channels
 delivered_once t e s lid delivered i j c a b = elim (cases_order i j) [
   | inl same ↦ same
   | inr (inl less) ↦ absurd (apart i j less a b)

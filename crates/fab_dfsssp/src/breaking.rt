@@ -21,9 +21,9 @@ ghost use Rattle.fab_dfsssp.specs.BrokenLanes.{AreBrokenLanes};
 ghost use Rattle.fab_dfsssp.specs.DfssspPlans.{IsDfssspPlan, IsDfssspFault};
 ghost use Rattle.fab_dfsssp.specs.LaneCounts.{CountsLane};
 ghost use Rattle.fab_dfsssp.specs.LaneEdges.{HasNoRingBelow};
-ghost use Rattle.fab_dfsssp.specs.PathIndex.{IndexesLane};
 
-use crate::lane_edges::{LaneEdges, lane_edges};
+use crate::counted_edges::CountedEdges;
+use crate::lane_edges::lane_edges;
 use crate::least_edge::weakest_edge;
 use crate::moving::move_paths;
 use crate::numbered::numbered_plan;
@@ -123,37 +123,27 @@ fn break_rings(
     lane: u8,
     channel: u32,
     lanes: &mut Lanes,
-    edges: &mut LaneEdges,
+    edges: &mut CountedEdges,
 ) -> Result<(), BreakFault>
     requires fabric { IsFabric fabric.now }
     requires tables { AreLeastWeightTables fabric.now tables.now }
     requires lane { lane < lanes.old.count }
     requires channel { channel < length fabric.now.channels }
     requires before { IsBrokenBelow fabric.now tables.now lanes.old.count lane lanes.old }
-    requires counts { CountsLane fabric.now tables.now lanes.old lane edges.old.counts }
-    requires paths { IndexesLane fabric.now tables.now lanes.old lane edges.old.paths }
+    requires counts { CountsLane fabric.now tables.now lanes.old lane edges.old }
     requires below { HasNoRingBelow fabric.now tables.now lanes.old lane channel }
     ensures count { OnOk result (lanes.new.count ≡ lanes.old.count) }
     ensures after { OnOk result (IsBrokenBelow fabric.now tables.now lanes.old.count lane lanes.new) }
-    ensures counts { OnOk result (CountsLane fabric.now tables.now lanes.new lane edges.new.counts) }
-    ensures paths { OnOk result (IndexesLane fabric.now tables.now lanes.new lane edges.new.paths) }
+    ensures counts { OnOk result (CountsLane fabric.now tables.now lanes.new lane edges.new) }
     ensures below { OnOk result (HasNoRingBelow fabric.now tables.now lanes.new lane (channel + 1)) }
     ensures refusal { IfErr result (EndsAtRing fabric.now tables.now lanes.old.count) }
 {
-    while let Some(ring) = ring_through(alloc, &edges.counts, channel)? {
+    while let Some(ring) = ring_through(alloc, edges, channel)? {
         if lane + 1 == lanes.count() {
             return Err(BreakFault::NeedsLane { ring });
         }
-        let edge = weakest_edge(&edges.counts, ring.nodes());
-        move_paths(
-            fabric,
-            tables,
-            lane,
-            edge,
-            &edges.paths,
-            lanes,
-            &mut edges.counts,
-        )?;
+        let edge = weakest_edge(edges, ring.nodes());
+        move_paths(alloc, fabric, tables, lane, edge, lanes, edges)?;
     }
     Ok(())
 }

@@ -10,7 +10,7 @@ mod moving;
 mod nearness;
 mod neighbours;
 mod numbered;
-mod path_index;
+mod paths_over;
 mod ring_search;
 mod starting;
 

@@ -7,8 +7,7 @@ use Rattle.fab_dfsssp.proofs.breaking.break_lane.Goals as goal
 pub loop-channel-init : goal.loop-channel-init
 loop-channel-init c = record {
   before = c.requires.before;
-  counts = c.in_ok-edges.ensures.counts;
-  paths = c.in_ok-edges.ensures.paths;
+  counts = c.in_ok-edges.ensures;
   below = no_ring_at_first c.args.fabric.now c.args.tables.now c.args.lanes.now c.args.lane;
 }
 
@@ -22,9 +21,6 @@ break_rings-requires-clause-before c =
 pub break_rings-requires-clause-counts : goal.break_rings-requires-clause-counts
 break_rings-requires-clause-counts c = c.loop-channel.invariant.counts
 
-pub break_rings-requires-clause-paths : goal.break_rings-requires-clause-paths
-break_rings-requires-clause-paths c = c.loop-channel.invariant.paths
-
 pub break_rings-requires-clause-below : goal.break_rings-requires-clause-below
 break_rings-requires-clause-below c = c.loop-channel.invariant.below
 
@@ -32,7 +28,6 @@ pub loop-channel-preserved : goal.loop-channel-preserved
 loop-channel-preserved c = record {
   before = subst (λ n. IsBrokenBelow c.args.fabric.now c.args.tables.now n c.args.lane c.break_rings.new.lanes) c.loop-channel.invariant.before.assigned.lane_count c.in_ok-break_rings.ensures.after;
   counts = c.in_ok-break_rings.ensures.counts;
-  paths = c.in_ok-break_rings.ensures.paths;
   below = c.in_ok-break_rings.ensures.below;
 }
 

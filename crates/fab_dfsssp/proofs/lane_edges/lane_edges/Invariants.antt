@@ -3,14 +3,12 @@ use Rattle.std.specs.Prelude.{sum_by}
 use Rattle.fab_model.specs.Topology.{lids_of}
 use Rattle.fab_dfsssp.specs.CountedEdges.{times_of, IsWhole}
 use Rattle.fab_dfsssp.specs.LevelPaths.{level_paths_to}
-use Rattle.fab_dfsssp.proofs.PathLists.{ListsFirst}
 use Rattle.fab_dfsssp.proofs.lane_edges.lane_edges.Given as goal
 
 abbrev pub invariant-loop-lid : goal.invariant-loop-lid
 invariant-loop-lid l = record {
-  whole : IsWhole l.edges.counts;
-  nodes : length l.edges.counts.heads ≡ length l.fabric.channels;
-  counts : (edge : ℕ × ℕ) → times_of l.edges.counts edge ≡ sum_by (λ lid. level_paths_to l.fabric l.tables l.lanes l.lane edge lid) (take l.lid-index (lids_of l.fabric));
-  few : (edge : ℕ × ℕ) → times_of l.edges.counts edge ≤ l.lid-index * 2048;
-  paths : ListsFirst l.fabric l.tables l.lanes l.lane l.lid-index l.edges.paths;
+  whole : IsWhole l.edges;
+  nodes : length l.edges.heads ≡ length l.fabric.channels;
+  counts : (edge : ℕ × ℕ) → times_of l.edges edge ≡ sum_by (λ lid. level_paths_to l.fabric l.tables l.lanes l.lane edge lid) (take l.lid-index (lids_of l.fabric));
+  few : (edge : ℕ × ℕ) → times_of l.edges edge ≤ l.lid-index * 2048;
 }

@@ -2,16 +2,15 @@ use Rattle.std.proofs.Common.{◌≡◌, ◌+◌, length, arith, refl, sym, ◌�
 use Rattle.fab_dfsssp.specs.Assignments.{count_below}
 use Rattle.fab_dfsssp.specs.LevelPaths.{is_level_over}
 use Rattle.fab_dfsssp.proofs.LaneCounts.{path_counted, no_path, count_below-le}
-use Rattle.fab_dfsssp.proofs.Levels.{level_same, level_other}
-use Rattle.fab_dfsssp.proofs.PathLists.{below_begins, below_skips, below_adds, below_ends}
-use Rattle.fab_dfsssp.proofs.lane_edges.add_paths.Goals as goal
-use Rattle.fab_dfsssp.proofs.lane_edges.add_paths.Goals.{then-eq+in_ok-add_path, else-eq}
+use Rattle.fab_dfsssp.proofs.Levels.{level_same}
+use Rattle.fab_dfsssp.proofs.lane_edges.count_paths.Goals as goal
+use Rattle.fab_dfsssp.proofs.lane_edges.count_paths.Goals.{then-eq+in_ok-count_path, else-eq}
 
 pub loop-s-init : goal.loop-s-init
-loop-s-init c = record { whole = c.requires.whole; nodes = refl; counts = λ edge. omega arith; paths = below_begins c.args.fabric.now c.args.tables.now c.args.lanes.now c.args.lane c.args.lid.0 c.args.edges.now.paths }
+loop-s-init c = record { whole = c.requires.whole; nodes = refl; counts = λ edge. omega arith }
 
-pub add_path-requires-clause-room : goal.add_path-requires-clause-room
-add_path-requires-clause-room c = λ edge.
+pub count_path-requires-clause-room : goal.count_path-requires-clause-room
+count_path-requires-clause-room c = λ edge.
     let t = c.args.fabric.now in
     let e = c.args.tables.now in
     let on = sym c.level.ensures ∙ level_same c.level.result c.args.lane (sym c.eq.ensures ∙ c.if-eq.true) in
@@ -31,19 +30,17 @@ loop-s-preserved c =
     let e = c.args.tables.now in
     let l = c.args.lanes.now in
     elim c.if-eq.branch [
-      | then-eq+in_ok-add_path w ↦
+      | then-eq+in_ok-count_path w ↦
           (rw w.edges-is (record {
-            whole = w.in_ok-add_path.ensures.whole;
-            nodes = w.in_ok-add_path.ensures.nodes ∙ c.loop-s.invariant.nodes;
+            whole = w.in_ok-count_path.ensures.whole;
+            nodes = w.in_ok-count_path.ensures.nodes ∙ c.loop-s.invariant.nodes;
             counts = λ edge. omega (
               arith,
-              w.in_ok-add_path.ensures.counts edge,
+              w.in_ok-count_path.ensures.counts edge,
               c.loop-s.invariant.counts edge,
               path_counted t e l c.args.lane c.args.lid.0 c.loop-s.s edge c.requires.toward.fabric.rows c.requires.tables
                   (sym c.level.ensures ∙ level_same c.level.result c.args.lane (sym c.eq.ensures ∙ w.if-eq.true)),
             );
-            paths = below_adds t e l c.args.lane c.args.lid.0 c.loop-s.s c.args.edges.now.paths c.loop-s.edges.paths c.loop-s.invariant.paths (omega (arith, c.loop-s-test.true, c.switches-s-end.ensures.count)) _ refl refl
-                w.add_path.new.edges.paths w.in_ok-add_path.ensures.paths;
           }))
       | else-eq w ↦
           (rw w.edges-is (record {
@@ -54,8 +51,6 @@ loop-s-preserved c =
               c.loop-s.invariant.counts edge,
               no_path t e l c.args.lane c.args.lid.0 c.loop-s.s edge (rw (sym c.level.ensures) (sym c.eq.ensures ∙ w.if-eq.false)),
             );
-            paths = below_skips t e l c.args.lane c.args.lid.0 c.loop-s.s c.args.edges.now.paths c.loop-s.edges.paths c.loop-s.invariant.paths
-                (λ is. level_other c.level.result c.args.lane (sym c.eq.ensures ∙ w.if-eq.false) (c.level.ensures ∙ is));
           }))
     ]
 
@@ -67,8 +62,3 @@ returns-clause-counts c = λ edge.
       c.loop-s.invariant.counts edge,
       ap (λ n. count_below n (is_level_over c.args.fabric.now c.args.tables.now c.args.lanes.now c.args.lane edge c.args.lid.0)) all,
     )
-
-pub returns-clause-paths : goal.returns-clause-paths
-returns-clause-paths c =
-    below_ends c.args.fabric.now c.args.tables.now c.args.lanes.now c.args.lane c.args.lid.0 c.loop-s.s c.args.edges.now.paths c.loop-s.edges.paths c.loop-s.invariant.paths
-    (omega (arith, c.requires.lanes.switches, c.loop-s-test.false, c.switches-s-end.ensures.count))

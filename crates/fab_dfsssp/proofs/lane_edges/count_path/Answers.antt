@@ -1,9 +1,8 @@
 use Rattle.std.proofs.Common.{arith, ◌∙◌, ℕ}
-use Rattle.fab_tables.specs.Route.{route}
 use Rattle.fab_tables.proofs.Paths.Ways.{goes_on, channel_low}
 use Rattle.fab_dfsssp.proofs.Counting.{one_there}
-use Rattle.fab_dfsssp.proofs.PathsCounted.{first_channel, next_channel, lists_first, lists_next}
-use Rattle.fab_dfsssp.proofs.lane_edges.add_path.Goals as goal
+use Rattle.fab_dfsssp.proofs.PathsCounted.{first_channel, next_channel}
+use Rattle.fab_dfsssp.proofs.lane_edges.count_path.Goals as goal
 
 pub raise-requires-clause-head : goal.raise-requires-clause-head
 raise-requires-clause-head c =
@@ -25,8 +24,8 @@ raise-requires-clause-fits c =
       one_there edge,
     )
 
-pub loop-channel-preserved-in_ok-add : goal.loop-channel-preserved-in_ok-add
-loop-channel-preserved-in_ok-add c = (
+pub loop-channel-preserved-in_ok-raise : goal.loop-channel-preserved-in_ok-raise
+loop-channel-preserved-in_ok-raise c = (
   tt,
   tt,
   goes_on c.args.fabric.now c.args.tables.now c.args.path.lid.0 c.requires.toward c.args.path.from.0 c.loop-channel.channel-iterator c.next.new.self c.in-Some.channel c.loop-channel.invariant.2 c.in-Some.ensures.steps,
@@ -39,8 +38,6 @@ loop-channel-preserved-in_ok-add c = (
     c.loop-channel.invariant.6 edge,
     next_channel edge c.loop-channel.before c.in-Some-before.first c.in-Some.channel c.loop-channel.channel-iterator.channels c.next.new.self.channels c.in-Some-before.is c.in-Some.ensures.steps.0,
   ),
-  lists_next (route c.args.fabric.now c.args.tables.now c.args.path.from.0 c.args.path.lid.0).channels c.args.path c.args.edges.now.paths c.loop-channel.edges.paths c.loop-channel.before c.loop-channel.channel-iterator.channels c.loop-channel.invariant.7
-      c.in-Some-before.first c.in-Some.channel c.next.new.self.channels c.in-Some-before.is c.in-Some.ensures.steps.0 c.add.new.self c.in_ok-add.ensures,
 )
 
 pub loop-channel-preserved : goal.loop-channel-preserved
@@ -56,6 +53,4 @@ loop-channel-preserved c = (
     c.loop-channel.invariant.6 edge,
     first_channel edge c.loop-channel.before c.in-Some.channel c.loop-channel.channel-iterator.channels c.next.new.self.channels c.in_default.is c.in-Some.ensures.steps.0,
   ),
-  lists_first (route c.args.fabric.now c.args.tables.now c.args.path.from.0 c.args.path.lid.0).channels c.args.path c.args.edges.now.paths c.loop-channel.edges.paths c.loop-channel.before c.loop-channel.channel-iterator.channels c.loop-channel.invariant.7
-      c.in-Some.channel c.next.new.self.channels c.in_default.is c.in-Some.ensures.steps.0,
 )
