@@ -19,3 +19,6 @@ pub use laws::{
     broken_or_refused, dfsssp_is_certified, dfsssp_plan_or_refusal_exists, lanes_stay_below,
     one_broken, one_dfsssp_plan, one_needs_lane, one_step,
 };
+
+#[cfg(test)]
+mod tests;
