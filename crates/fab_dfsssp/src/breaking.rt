@@ -10,7 +10,8 @@
 //! The edges of a lane are counted once, when its turn comes, and lowered as paths leave it. The least channel on a
 //! closed walk never falls within a lane, since the lane only loses edges; so channel after channel is looked at, and the
 //! rings through it are broken until it is on none. A ring takes a search back from its first channel, as far as the ring
-//! is long, and what moving the paths over its weakest edge takes. Memory: that of the plan and of one lane's edges.
+//! is long, and what moving the paths over its weakest edge takes. Memory: that of the plan, of one lane's edges, and of the
+//! paths over one edge.
 ghost use Rattle.std.specs.Prelude.{◌≡◌, ◌+◌, ◌<◌, ◌≤◌, length, IfOk, IfErr, OnOk};
 ghost use Rattle.fab_model.specs.WellFormed.{IsFabric};
 ghost use Rattle.fab_tables.specs.Certified.{IsCertified};
