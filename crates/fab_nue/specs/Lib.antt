@@ -2,7 +2,6 @@ pub mod Search
 pub mod Added
 pub mod Searching
 pub mod Choices
-pub mod Rooms
 pub mod Offers
 pub mod UnderWay
 pub mod Turns

@@ -53,8 +53,7 @@ pub fn search<L: Ledger>(
     requires channels { used.old.channels ≡ length fabric.now.channels }
     requires spare { length fabric.now.switches ≤ used.old.spare }
     requires tree { length tree.old ≡ length fabric.now.switches }
-    requires room_switches { room.old.switches ≡ length fabric.now.switches }
-    requires room_channels { room.old.channels ≡ length fabric.now.channels }
+    requires room { room.old ≡ length fabric.now.channels }
     ensures exact { IsSearched fabric.now (λ c. weight_of weights.now c) lid.0 used.old used.new tree.new result }
     ensures each_switch { length tree.new ≡ length fabric.now.switches }
     ensures channels { used.new.channels ≡ used.old.channels }

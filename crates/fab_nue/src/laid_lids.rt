@@ -51,8 +51,7 @@ pub(crate) fn lay_tree<L: Ledger>(
     requires escapes { (c d : ℕ) → DependsTowards fabric.now (length used.old) (λ lane. forest_in forests.now lane) (length fabric.now.switches) (home_lane fabric.now lid.0 (length used.old)) c d →
         IsListed (listed_in used.old (home_lane fabric.now lid.0 (length used.old))) c d }
     requires tree { length tree.old ≡ length fabric.now.switches }
-    requires room_switches { room.old.switches ≡ length fabric.now.switches }
-    requires room_channels { room.old.channels ≡ length fabric.now.channels }
+    requires room { room.old ≡ length fabric.now.channels }
     ensures laid { IsLaidIn fabric.now (λ c. weight_of weights.now c) (forest_in forests.now (home_lane fabric.now lid.0 (length used.old))) lid.0
         (home_lane fabric.now lid.0 (length used.old)) used.old used.new tree.new }
     ensures room { room.new ≡ room.old }

@@ -143,27 +143,9 @@ fn lay_all<L: Ledger>(
     requires tables { HasFixedEntries fabric.now tables.old }
     ensures { IfOk result (λ kept. IsWithoutLevels fabric.now (length used.old) (option_copied old.entry) kept tables.new used.new) }
 {
-    let mut weights = Weights::new(alloc, fabric)?;
-    let kept = keep_old(
-        alloc,
-        fabric,
-        components,
-        old,
-        used,
-        tables,
-        &mut weights,
-        steps,
-    )?;
-    lay_lids(
-        alloc,
-        fabric,
-        forests,
-        &kept,
-        used,
-        tables,
-        &mut weights,
-        steps,
-    )?;
+    let weights = &mut Weights::new(alloc, fabric)?;
+    let kept = keep_old(alloc, fabric, components, old, used, tables, weights, steps)?;
+    lay_lids(alloc, fabric, forests, &kept, used, tables, weights, steps)?;
     Ok(kept)
 }
 

@@ -11,7 +11,6 @@ use Rattle.fab_depgraph.specs.Listed.{IsListed}
 use Rattle.fab_escape.specs.EscapeSet.{home}
 use Rattle.fab_nue.specs.NuePlan.{IsLaid}
 use Rattle.fab_nue.specs.Arenas.{listed_in, spare_in}
-use Rattle.fab_nue.specs.Rooms.{MadeFor}
 use Rattle.fab_nue.specs.Forests.{AreForests, forest_in, DependsTowards}
 use Rattle.fab_nue.specs.Laying.{IsLaidIn, AreLaidBelow, IsTreeToward}
 use Rattle.fab_nue.proofs.Lanes.LaneLists.{same_length}
@@ -32,8 +31,7 @@ loop-lid-init g c =
     let rise : IsStrictlyIncreasing (lids_of t) = (lids_are t c.lids_in_use-lid-items.ensures.kept).ascending in
     record {
       tree = ap length c.in_ok-tree.ensures ∙ length-replicate (length t.switches) _;
-      room_switches = c.in_ok-room.ensures.switches;
-      room_channels = c.in_ok-room.ensures.channels;
+      room = c.in_ok-room.ensures;
       channels = c.make_room.ensures.channels;
       room_left = c.in_ok-make_room.ensures.room;
       laid = λ old laid x. so_far_begins t n old c.args.kept.now (λ lane. forest_in c.args.forests.now lane) rise laid c.args.tables.now c.args.weights.now c.make_room.new.used
@@ -136,8 +134,7 @@ loop-lid-preserved g c =
           = subst (λ m. IsLaidIn t (λ d. weight_of c.loop-lid.weights d) (forest_in c.args.forests.now (home t lid m)) lid (home t lid m) c.loop-lid.used w.lay_tree.new.used w.lay_tree.new.tree) same w.lay_tree.ensures.laid in
           rw (w.used-is, w.tables-is, w.weights-is, w.tree-is, w.room-is) (record {
             tree = (laid_toward t lid laid_in.place lids.ensures.kept.rows laid_in.in_use _ _ (home t lid n) (forest_in c.args.forests.now (home t lid n)) w.lay_tree.new.tree (c.requires.forests.right (home t lid n) below) laid_in.laid).is_tree.each_switch;
-            room_switches = ap (λ (r : MadeFor). r.switches) w.lay_tree.ensures.room ∙ was.room_switches;
-            room_channels = ap (λ (r : MadeFor). r.channels) w.lay_tree.ensures.room ∙ was.room_channels;
+            room = w.lay_tree.ensures.room ∙ was.room;
             channels = laid_in.changes.channels ∙ was.channels;
             room_left = room_goes_on t n kept k lid low at none c.loop-lid.used w.lay_tree.new.used laid_in.changes laid_in.spare was.room_left;
             laid = λ old laid x. laid_goes_on t n old kept F rise k lid c.loop-lid.tables w.take_tree.new.tables c.loop-lid.weights w.take_tree.new.weights c.loop-lid.used w.lay_tree.new.used w.lay_tree.new.tree
@@ -147,8 +144,7 @@ loop-lid-preserved g c =
           (let has : Contains kept lid = found kept lid (sym c.contains.ensures ∙ w.if-not-contains.false) in
           rw (w.used-is, w.tables-is, w.weights-is, w.tree-is, w.room-is) (record {
             tree = was.tree;
-            room_switches = was.room_switches;
-            room_channels = was.room_channels;
+            room = was.room;
             channels = was.channels;
             room_left = room_passes t n kept k lid low at c.loop-lid.used was.room_left;
             laid = λ old laid x. kept_passes t n old kept F rise k lid c.loop-lid.tables c.loop-lid.weights c.loop-lid.used low at has (was.laid old laid x);

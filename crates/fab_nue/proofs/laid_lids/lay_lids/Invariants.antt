@@ -10,8 +10,7 @@ use Rattle.fab_nue.proofs.laid_lids.lay_lids.Given as goal
 abbrev pub invariant-loop-lid : goal.invariant-loop-lid
 invariant-loop-lid g l = record {
   tree : length l.tree ≡ length l.fabric.switches;
-  room_switches : l.room.switches ≡ length l.fabric.switches;
-  room_channels : l.room.channels ≡ length l.fabric.channels;
+  room : l.room ≡ length l.fabric.channels;
   channels : channel_counts l.used ≡ channel_counts l.fn.used;
   room_left : HasRoomToLay l.fabric (length l.fn.used) l.kept l.lid-index l.used;
   laid : (old : Option Plan) (laid : ℕ → List (Option ℕ)) →
