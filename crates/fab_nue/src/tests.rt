@@ -1,14 +1,15 @@
-//! A heap with room for three choices; two switches joined by a cable, with a terminal at the second; a ring of four
-//! switches, and three in a row.
+//! A heap with room for three choices; searches on a ring of four switches and on three in a row; plans for a ring of
+//! five switches, each with a terminal, and for a switch alone.
 ghost use Rattle.std.specs.Prelude.{◌≡◌, ◌+◌, ◌<◌, ◌≤◌, length, Contains, IfOk, OnOk};
 ghost use Rattle.fab_model.specs.Records.{last_line};
 ghost use Rattle.fab_model.specs.Topology.{lids_of};
 
-use crate::{Choice, Choices, Room, Searched, home, search};
+use crate::{Choice, Choices, Room, Searched, home, nue, search};
 use fab_depgraph::{Added, Dep, DepGraph, Mark, Steps};
+use fab_hops::Hops;
 use fab_model::{ChannelId, Desc, Fabric, Lid, NodeKind, Raw, RawLink, RawNode, SwitchId};
 use fab_sssp::Weights;
-use fab_tables::Tree;
+use fab_tables::{Plan, Tree};
 use std::alloc::{AllocError, Global};
 use std::marker::Brand;
 use std::process::Abort;
@@ -35,135 +36,147 @@ fn the_least_choice_comes_first(rt: HostRuntime) -> Result<(), Fail> {
     Ok(())
 }
 
-fn node(line: u32, kind: NodeKind, guid: u64, lid: u32) -> RawNode
-    ensures { result.line ≡ line }
-{
-    RawNode {
-        line,
-        kind,
-        guid,
-        ports: 4,
-        lid,
-        lmc: 0,
-        desc: Desc::new(b""),
-    }
-}
+// ---- fabrics
 
-fn link(line: u32, node: u32, port: u32, far: (NodeKind, u64, u32), lid: u32) -> RawLink
-    ensures line { result.line ≡ line }
-    ensures node { result.node ≡ node }
-{
-    let (far_kind, far_guid, far_port) = far;
-    RawLink {
-        line,
-        node,
-        port,
-        far_kind,
-        far_guid,
-        far_port,
-        port_guid: 0,
-        lid,
-        lmc: 0,
-    }
-}
-
-// Switches with LIDs 1 and 2, and LID 3 at the second one.
-fn pair(alloc: Global) -> Result<Fabric, Fail> {
-    let mut raw = Raw::new(alloc);
-    raw.push_node(node(1, NodeKind::Switch, 0x10, 1))?;
-    raw.push_node(node(2, NodeKind::Switch, 0x11, 2))?;
-    raw.push_node(node(3, NodeKind::Adapter, 0x20, 0))?;
-    raw.push_link(link(4, 0, 1, (NodeKind::Switch, 0x11, 1), 0))?;
-    raw.push_link(link(5, 1, 1, (NodeKind::Switch, 0x10, 1), 0))?;
-    raw.push_link(link(6, 1, 3, (NodeKind::Adapter, 0x20, 1), 0))?;
-    raw.push_link(link(7, 2, 1, (NodeKind::Switch, 0x11, 3), 3))?;
-    Ok(Fabric::build(alloc, &raw)?)
-}
-
-#[test]
-fn each_lid_has_its_home_lane(rt: HostRuntime) -> Result<(), Fail> {
-    let fabric = pair(rt.alloc())?;
-    let _room = Room::new(rt.alloc(), &fabric)?;
-    assert_eq!(rt; fabric.lids(), 3);
-    for lid in fabric.lids_in_use() {
-        assert_eq!(rt;
-            home(&fabric, *lid, 2),
-            u8::from(lid.0 != 1),
-            "LID {}",
-            lid.0
-        );
-    }
-    Ok(())
-}
-
-// A switch on this line, which is its GUID and its LID too.
-fn push_switch(raw: &mut Raw, line: u32) -> Result<(), AllocError>
-    requires { last_line raw.old < line }
-    ensures line { OnOk result (last_line raw.new ≡ line) }
-    ensures node { OnOk result (length raw.new.nodes ≡ length raw.old.nodes + 1) }
-{
-    raw.push_node(node(line, NodeKind::Switch, u64::from(line), line))
-}
-
-// A cable, which its ends state on this line and the next. An end is a node and a port; node 0 has the GUID 1.
-fn push_cable(
-    raw: &mut Raw,
-    line: u32,
-    one: (u32, u32),
-    other: (u32, u32),
-) -> Result<(), AllocError>
-    requires line { last_line raw.old < line }
-    requires one { one.0 < length raw.old.nodes }
-    requires other { other.0 < length raw.old.nodes }
-    requires small { line < 100 }
-    ensures line { OnOk result (last_line raw.new ≡ line + 1) }
-    ensures nodes { OnOk result (raw.new.nodes ≡ raw.old.nodes) }
-{
-    let to_other = (NodeKind::Switch, u64::from(other.0) + 1, other.1);
-    let to_one = (NodeKind::Switch, u64::from(one.0) + 1, one.1);
-    raw.push_link(link(line, one.0, one.1, to_other, 0))?;
-    raw.push_link(link(line + 1, other.0, other.1, to_one, 0))
-}
+/// A cable by its ends, each a node and a port there.
+type Cable = ((u32, u32), (u32, u32));
 
 // Channel 2s leads from switch s to the next one, and 2s + 1 to the one before.
-fn ring_of_four(alloc: Global) -> Result<Fabric, Fail> {
-    let mut raw = Raw::new(alloc);
-    push_switch(&mut raw, 1)?;
-    push_switch(&mut raw, 2)?;
-    push_switch(&mut raw, 3)?;
-    push_switch(&mut raw, 4)?;
-    push_cable(&mut raw, 5, (0, 1), (1, 2))?;
-    push_cable(&mut raw, 7, (1, 1), (2, 2))?;
-    push_cable(&mut raw, 9, (2, 1), (3, 2))?;
-    push_cable(&mut raw, 11, (3, 1), (0, 2))?;
-    Ok(Fabric::build(alloc, &raw)?)
-}
+const RING_OF_FOUR: [Cable; 4] = [
+    ((0, 1), (1, 2)),
+    ((1, 1), (2, 2)),
+    ((2, 1), (3, 2)),
+    ((3, 1), (0, 2)),
+];
 
 // Two cables join the first switch to the second, and one the second to the third.
-fn three_in_a_row(alloc: Global) -> Result<Fabric, Fail> {
+const THREE_IN_A_ROW: [Cable; 3] = [((0, 1), (1, 1)), ((0, 2), (1, 2)), ((1, 3), (2, 1))];
+
+// Port 1 leads to the next switch, port 2 to the one before, and port 3 to the terminal.
+const RING_OF_FIVE: [Cable; 10] = [
+    ((0, 1), (1, 2)),
+    ((1, 1), (2, 2)),
+    ((2, 1), (3, 2)),
+    ((3, 1), (4, 2)),
+    ((4, 1), (0, 2)),
+    ((0, 3), (5, 1)),
+    ((1, 3), (6, 1)),
+    ((2, 3), (7, 1)),
+    ((3, 3), (8, 1)),
+    ((4, 3), (9, 1)),
+];
+
+fn kind_of(node: u32, switches: u32) -> NodeKind {
+    if node < switches {
+        NodeKind::Switch
+    } else {
+        NodeKind::Adapter
+    }
+}
+
+// The next node, on the line of its number.
+fn push_node(raw: &mut Raw, number: u32, switches: u32) -> Result<(), AllocError>
+    requires line { last_line raw.old < number }
+    requires small { 0 < number }
+    ensures line { OnOk result (last_line raw.new ≡ number) }
+    ensures nodes { OnOk result (length raw.new.nodes ≡ length raw.old.nodes + 1) }
+{
+    raw.push_node(RawNode {
+        line: number,
+        kind: kind_of(number - 1, switches),
+        guid: u64::from(number),
+        ports: 3,
+        lid: number,
+        lmc: 0,
+        desc: Desc::new(b""),
+    })
+}
+
+// One end of a cable, as it is stated on this line.
+fn push_end(
+    raw: &mut Raw,
+    line: u32,
+    switches: u32,
+    near: (u32, u32),
+    far: (u32, u32),
+) -> Result<(), AllocError>
+    requires line { last_line raw.old < line }
+    requires node { near.0 < length raw.old.nodes }
+    requires small { near.0 < 100 }
+    ensures line { OnOk result (last_line raw.new ≡ line) }
+    ensures nodes { OnOk result (raw.new.nodes ≡ raw.old.nodes) }
+{
+    raw.push_link(RawLink {
+        line,
+        node: near.0,
+        port: near.1,
+        far_kind: kind_of(far.0, switches),
+        far_guid: u64::from(far.0) + 1,
+        far_port: far.1,
+        port_guid: 0,
+        lid: near.0 + 1,
+        lmc: 0,
+    })
+}
+
+// Of so many nodes the first are switches. A node's GUID and its LID are its number, counted from 1.
+fn fabric_of(
+    rt: &impl Abort,
+    alloc: Global,
+    switches: u32,
+    nodes: u32,
+    cables: &[Cable],
+) -> Result<Fabric, Fail> {
+    assert!(rt; nodes < 100);
     let mut raw = Raw::new(alloc);
-    push_switch(&mut raw, 1)?;
-    push_switch(&mut raw, 2)?;
-    push_switch(&mut raw, 3)?;
-    push_cable(&mut raw, 4, (0, 1), (1, 1))?;
-    push_cable(&mut raw, 6, (0, 2), (1, 2))?;
-    push_cable(&mut raw, 8, (1, 3), (2, 1))?;
+    for node in 0..nodes {
+        push_node(&mut raw, node + 1, switches)?;
+    }
+    let mut line = nodes;
+    for (one, other) in cables {
+        assert!(rt; one.0 < nodes && other.0 < nodes && line < 100);
+        push_end(&mut raw, line + 1, switches, *one, *other)?;
+        push_end(&mut raw, line + 2, switches, *other, *one)?;
+        line += 2;
+    }
     Ok(Fabric::build(alloc, &raw)?)
 }
 
-// Whether a dependency is added to those in use.
-fn adds<L: Ledger>(used: &mut DepGraph, first: u32, second: u32, steps: &mut Steps<L>) -> bool
-    requires first { first < used.old.channels }
-    requires second { second < used.old.channels }
-    requires spare { 0 < used.old.spare }
-    ensures channels { used.new.channels ≡ used.old.channels }
-    ensures spare { used.old.spare ≤ used.new.spare + 1 }
+// ---- searches
+
+/// How a search ended, the channel of each switch, and how many dependencies are in use then.
+#[derive(Drop)]
+struct Found {
+    ended: Searched,
+    channels: Vec<Option<ChannelId>>,
+    in_use: Mark,
+}
+
+// An arena in which these dependencies are in use, with spare for a tree.
+fn arena_of<L: Ledger>(
+    rt: &impl Abort,
+    alloc: Global,
+    fabric: &Fabric,
+    deps: &[(u32, u32)],
+    steps: &mut Steps<L>,
+) -> Result<DepGraph, AllocError>
+    ensures channels { IfOk result (λ used. used.channels ≡ length fabric.now.channels) }
+    ensures spare { IfOk result (λ used. length fabric.now.switches ≤ used.spare) }
 {
-    let dep = Dep {
-        first: ChannelId(first),
-        second: ChannelId(second),
-    };
-    used.add(dep, steps) == Added::Yes
+    let mut used = DepGraph::new(alloc, fabric.channels())?;
+    for (first, second) in deps {
+        assert!(rt; *first < fabric.channels() && *second < fabric.channels());
+        assert!(rt; used.mark().0 < 100);
+        used.reserve(1)?;
+        let dep = Dep {
+            first: ChannelId(*first),
+            second: ChannelId(*second),
+        };
+        assert_eq!(rt; used.add(dep, steps), Added::Yes);
+    }
+    assert!(rt; fabric.switches() < 100 && used.mark().0 < 100);
+    used.reserve(fabric.switches())?;
+    Ok(used)
 }
 
 #[tactic(auto, using(fab_tables::proofs::Joined::Ascending::lid_in_use))]
@@ -173,81 +186,121 @@ fn first_lid(rt: &impl Abort, fabric: &Fabric) -> Lid
     fabric.lid_at(0).expect(rt, "a LID")
 }
 
-// The end of the search for the first LID, and its tree.
+// The search for the first LID beside these dependencies in use.
 fn search_first<L: Ledger>(
     rt: &impl Abort,
     alloc: Global,
     fabric: &Fabric,
-    used: &mut DepGraph,
-    steps: &mut Steps<L>,
-) -> Result<(Searched, Tree), AllocError>
-    requires channels { used.old.channels ≡ length fabric.now.channels }
-    requires spare { length fabric.now.switches ≤ used.old.spare }
-    ensures { IfOk result (λ found. length found.1 ≡ length fabric.now.switches) }
-{
-    let weights = Weights::new(alloc, fabric)?;
-    let mut tree = Tree::new(alloc, fabric)?;
-    let mut room = Room::new(alloc, fabric)?;
-    let lid = first_lid(rt, fabric);
-    let ended = search(fabric, &weights, used, lid, &mut tree, &mut room, steps);
-    Ok((ended, tree))
-}
-
-// The third switch could go by channel 4 or 5: each closes a walk with what is in use, and no other can be turned.
-fn get_stuck<L: Ledger>(rt: &impl Abort, alloc: Global, blank: Blank) -> Result<(), Fail>
+    deps: &[(u32, u32)],
+    blank: Blank,
+) -> Result<Found, AllocError>
     requires name { blank.name ≡ L.name }
     requires parts { blank.parts ≡ L.parts }
     requires some { 0 < blank.parts }
 {
     let mut steps = Steps::<L>::new(blank);
-    let fabric = ring_of_four(alloc)?;
-    assert_eq!(rt; fabric.switches(), 4);
-    assert_eq!(rt; fabric.channels(), 8);
-    let mut used = DepGraph::new(alloc, 8)?;
-    used.reserve(10)?;
-    assert!(rt; adds(&mut used, 3, 1, &mut steps));
-    assert!(rt; adds(&mut used, 1, 7, &mut steps));
-    assert!(rt; adds(&mut used, 7, 5, &mut steps));
-    assert!(rt; adds(&mut used, 6, 0, &mut steps));
-    assert!(rt; adds(&mut used, 0, 2, &mut steps));
-    assert!(rt; adds(&mut used, 2, 4, &mut steps));
-    let (ended, tree) = search_first(rt, alloc, &fabric, &mut used, &mut steps)?;
-    assert_eq!(rt; ended, Searched::Impasse);
-    assert_eq!(rt; used.mark(), Mark(6));
-    for s in 0..4 {
-        assert_eq!(rt; tree.next(SwitchId(s)), None, "switch {s}");
+    let mut used = arena_of(rt, alloc, fabric, deps, &mut steps)?;
+    let weights = Weights::new(alloc, fabric)?;
+    let mut tree = Tree::new(alloc, fabric)?;
+    let mut room = Room::new(alloc, fabric)?;
+    let lid = first_lid(rt, fabric);
+    let ended = search(
+        fabric, &weights, &mut used, lid, &mut tree, &mut room, &mut steps,
+    );
+    let mut channels = Vec::new(alloc);
+    for s in 0..fabric.switches() {
+        channels.push(tree.next(SwitchId(s)))?;
+    }
+    let in_use = used.mark();
+    Ok(Found {
+        ended,
+        channels,
+        in_use,
+    })
+}
+
+// The third switch could go by channel 4 or 5: each closes a walk with what is in use, and no other can be turned.
+#[test]
+fn an_impasse_leaves_what_is_in_use(rt: HostRuntime) -> Result<(), Fail> {
+    let fabric = fabric_of(&rt, rt.alloc(), 4, 4, &RING_OF_FOUR)?;
+    let deps = [(3, 1), (1, 7), (7, 5), (6, 0), (0, 2), (2, 4)];
+    let found = search_first::<Brand>(&rt, rt.alloc(), &fabric, &deps, Blank::new(1))?;
+    assert_eq!(rt; found.ended, Searched::Impasse);
+    assert_eq!(rt; found.in_use, Mark(6));
+    assert_eq!(rt; found.channels.as_slice(), [None; 4].as_slice());
+    Ok(())
+}
+
+// The second switch settles by channel 2, behind which channel 5 would close a walk; so channel 3 takes its place.
+#[test]
+fn a_swap_completes_the_tree(rt: HostRuntime) -> Result<(), Fail> {
+    let fabric = fabric_of(&rt, rt.alloc(), 3, 3, &THREE_IN_A_ROW)?;
+    let found = search_first::<Brand>(&rt, rt.alloc(), &fabric, &[(2, 5)], Blank::new(1))?;
+    assert_eq!(rt; found.ended, Searched::Complete);
+    assert_eq!(rt; found.in_use, Mark(2));
+    let tree = [None, Some(ChannelId(3)), Some(ChannelId(5))];
+    assert_eq!(rt; found.channels.as_slice(), tree.as_slice());
+    Ok(())
+}
+
+// ---- plans
+
+// The port of each switch for a LID.
+fn ports_to(
+    rt: &impl Abort,
+    alloc: Global,
+    fabric: &Fabric,
+    plan: &Plan,
+    lid: u16,
+) -> Result<Vec<u8>, AllocError> {
+    assert!(rt; plan.fits(fabric));
+    let mut ports = Vec::new(alloc);
+    for s in 0..fabric.switches() {
+        ports.push(plan.tables.get(SwitchId(s), Lid(lid)))?;
+    }
+    Ok(ports)
+}
+
+// From the last switch two hops would do, by the one before; but the turn there would close a walk with what is in use.
+#[test]
+fn a_turn_that_closes_a_walk_is_not_taken(rt: HostRuntime) -> Result<(), Fail> {
+    let fabric = fabric_of(&rt, rt.alloc(), 5, 10, &RING_OF_FIVE)?;
+    let hops = Hops::of(rt.alloc(), &fabric)?;
+    let laid = nue(rt.alloc(), &fabric, &hops, 1, None)?;
+    let to_switch = ports_to(&rt, rt.alloc(), &fabric, &laid.plan, 3)?;
+    assert_eq!(rt; to_switch.as_slice(), [1, 1, 0, 2, 1].as_slice());
+    let to_terminal = ports_to(&rt, rt.alloc(), &fabric, &laid.plan, 8)?;
+    assert_eq!(rt; to_terminal.as_slice(), [1, 1, 3, 2, 1].as_slice());
+    Ok(())
+}
+
+#[test]
+fn each_lid_has_its_home_lane(rt: HostRuntime) -> Result<(), Fail> {
+    let fabric = fabric_of(&rt, rt.alloc(), 5, 10, &RING_OF_FIVE)?;
+    assert_eq!(rt; fabric.lids(), 10);
+    for lid in fabric.lids_in_use() {
+        let lane = home(&fabric, *lid, 2);
+        let switch = (u32::from(lid.0) + 4) % 5;
+        assert_eq!(rt; u32::from(lane), switch % 2, "LID {}", lid.0);
     }
     Ok(())
 }
 
 #[test]
-fn an_impasse_leaves_what_is_in_use(rt: HostRuntime) -> Result<(), Fail> {
-    get_stuck::<Brand>(&rt, rt.alloc(), Blank::new(1))
-}
-
-// The second switch settles by channel 2, behind which channel 5 would close a walk; so channel 3 takes its place.
-fn complete_by_a_swap<L: Ledger>(rt: &impl Abort, alloc: Global, blank: Blank) -> Result<(), Fail>
-    requires name { blank.name ≡ L.name }
-    requires parts { blank.parts ≡ L.parts }
-    requires some { 0 < blank.parts }
-{
-    let mut steps = Steps::<L>::new(blank);
-    let fabric = three_in_a_row(alloc)?;
-    assert_eq!(rt; fabric.switches(), 3);
-    assert_eq!(rt; fabric.channels(), 6);
-    let mut used = DepGraph::new(alloc, 6)?;
-    used.reserve(4)?;
-    assert!(rt; adds(&mut used, 2, 5, &mut steps));
-    let (ended, tree) = search_first(rt, alloc, &fabric, &mut used, &mut steps)?;
-    assert_eq!(rt; ended, Searched::Complete);
-    assert_eq!(rt; tree.next(SwitchId(0)), None);
-    assert_eq!(rt; tree.next(SwitchId(1)), Some(ChannelId(3)));
-    assert_eq!(rt; tree.next(SwitchId(2)), Some(ChannelId(5)));
-    assert_eq!(rt; used.mark(), Mark(2));
+fn a_switch_alone_has_its_entry_and_lanes(rt: HostRuntime) -> Result<(), Fail> {
+    let fabric = fabric_of(&rt, rt.alloc(), 1, 1, &[])?;
+    assert_eq!(rt; fabric.channels(), 0);
+    let hops = Hops::of(rt.alloc(), &fabric)?;
+    let laid = nue(rt.alloc(), &fabric, &hops, 15, None)?;
+    let ports = ports_to(&rt, rt.alloc(), &fabric, &laid.plan, 1)?;
+    assert_eq!(rt; ports.as_slice(), [0].as_slice());
+    assert!(rt; laid.plan.fits(&fabric));
+    assert_eq!(rt; fabric.switches(), 1);
+    let lanes = laid.plan.lanes.as_ref().expect(&rt, "lanes");
+    assert_eq!(rt; lanes.count(), 15);
+    assert_eq!(rt; lanes.level(SwitchId(0), Lid(1)), None);
+    for level in 0..16 {
+        assert_eq!(rt; lanes.lane(SwitchId(0), level), level);
+    }
     Ok(())
-}
-
-#[test]
-fn a_swap_completes_the_tree(rt: HostRuntime) -> Result<(), Fail> {
-    complete_by_a_swap::<Brand>(&rt, rt.alloc(), Blank::new(1))
 }
