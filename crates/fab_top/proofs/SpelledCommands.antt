@@ -9,12 +9,13 @@ use Rattle.fab_report.specs.declared.recipe.Kind.{Kind}
 use Rattle.fab_report.specs.declared.recipe.Recipe.{Recipe}
 use Rattle.fab_report.specs.Laws.{HasSeed}
 use Rattle.fab_report.specs.Recipes.{fits}
+use Rattle.fab_sweep.specs.declared.Failing.{Failing}
 use Rattle.fab_top.specs.declared.command.Engine.{Engine}
 use Rattle.fab_top.specs.Engines.{IsLaneCount, HasLaneCount}
 use Rattle.fab_top.specs.declared.command.Command.{Command}
-use Rattle.fab_top.specs.declared.command.Command.TheVariants.{Check, Route, Certify, Convert, Repair, Cut, Load, Gen, Demo}
+use Rattle.fab_top.specs.declared.command.Command.TheVariants.{Check, Route, Certify, Convert, Repair, Cut, Load, Gen, Demo, Sweep}
 use Rattle.fab_top.specs.Ran.{files_of}
-use Rattle.fab_top.specs.Words.{texts, is_file, named, number_in, kinds, two_files, recipe_of, recipe_in, lid_in, flagged_lanes, are_three_files, repair_words, show_from_to, show_words, gen_words, engine_in, asked_behind, asked_by, route_words, demo_words, commands, command_of}
+use Rattle.fab_top.specs.Words.{texts, is_file, named, number_in, kinds, two_files, recipe_of, recipe_in, lid_in, flagged_lanes, are_three_files, repair_words, show_from_to, show_words, gen_words, engine_in, asked_behind, asked_by, route_words, demo_words, failings, sweep_words, commands, command_of}
 use Rattle.fab_top.proofs.LowNumbers.{number_is_low}
 use Rattle.fab_top.proofs.AskedLanes.{engine_after, asked_behind_rightly, asked_by_rightly, flagged_in_range}
 
@@ -38,6 +39,7 @@ abbrev pub HasLanes : Command → Type 0
 HasLanes (Route fabric engine) = HasLaneCount engine
 HasLanes (Demo recipe engine) = HasLaneCount engine
 HasLanes (Repair fabric plan failed lanes) = IsLaneCount lanes
+HasLanes (Sweep what fabric plan lanes) = IsLaneCount lanes
 HasLanes _ = Unit {0}
 
 -- what the command asks for can be done
@@ -170,6 +172,22 @@ demo_within (a ∷ b ∷ c ∷ d ∷ x ∷ []) made e = cc
 demo_within (a ∷ b ∷ c ∷ d ∷ x ∷ y ∷ []) made e = made_demo (recipe_in a b c d) (option_and_then (engine_in x) (asked_by y)) made (spelled_recipe_fits a b c d) (engine_after x (asked_by y) (asked_by_rightly y)) e
 demo_within (a ∷ b ∷ c ∷ d ∷ x ∷ y ∷ z ∷ rest) made e = cc
 
+made_sweep : (files : Bool) (what : Option Failing) (lanes : Option ℕ) (made : Command) → IfSome lanes IsLaneCount →
+    option_and_then (λ one. option_and_then (λ n. then_some files (Sweep one 2 3 n)) lanes) what ≡ Some made → IsSpelledBy 6 made
+made_sweep files None lanes made count e = cc
+made_sweep files (Some what) None made count e = cc
+made_sweep files (Some what) (Some lanes) made count e =
+    made_if 6 files (Sweep what 2 3 lanes) made e (record { places = (omega arith, (omega arith, tt)); asks = record { recipe = tt; lanes = count } })
+
+sweep_within : SpellsRightly sweep_words
+sweep_within [] made e = cc
+sweep_within (a ∷ []) made e = cc
+sweep_within (a ∷ b ∷ []) made e = cc
+sweep_within (a ∷ b ∷ c ∷ []) made e = cc
+sweep_within (a ∷ b ∷ c ∷ d ∷ []) made e = cc
+sweep_within (a ∷ b ∷ c ∷ d ∷ x ∷ []) made e = made_sweep (is_file b && is_file c) (named failings a) (flagged_lanes d x) made (flagged_in_range d x) e
+sweep_within (a ∷ b ∷ c ∷ d ∷ x ∷ y ∷ rest) made e = cc
+
 -- ---- the table of the forms
 
 abbrev AllRight : List (List ℕ × (List (List ℕ) → Option Command)) → Type 0
@@ -210,7 +228,7 @@ all_right = (
               show_within,
               (
                 two_within (λ f p. Load f p) (record { places = both_places; asks = record { recipe = tt; lanes = tt } }),
-                (gen_within, (demo_within, tt)),
+                (gen_within, (demo_within, (sweep_within, tt))),
               ),
             ),
           ),

@@ -9,7 +9,7 @@ use Rattle.fab_model.specs.declared.rows.Lid.{Lid}
 use Rattle.fab_model.specs.Topology.{lid_id}
 use Rattle.fab_top.specs.declared.command.Command.{Command}
 use Rattle.fab_top.specs.declared.command.Command.TheVariants.{Show}
-use Rattle.fab_top.specs.Words.{texts, is_file, lid_in, named, kinds, repair_words, show_from_to, show_words, gen_words, route_words, demo_words, command_of, commands}
+use Rattle.fab_top.specs.Words.{texts, is_file, lid_in, named, kinds, repair_words, show_from_to, show_words, gen_words, route_words, demo_words, failings, sweep_words, command_of, commands}
 
 -- a word that a table does not begin with is looked for behind
 other_word : (b : Bool) (xs ys : List ℕ) → Decides b (xs ≡ ys) → (ys ≡ xs → ⊥) → b ≡ false
@@ -23,7 +23,7 @@ past_word {A} row table word other =
     subst P (sym is) refl
 
 -- the word is none of a table's
-abbrev IsNoneOf : {A : Type 0} → List (List ℕ × A) → List ℕ → Type 0
+abbrev pub IsNoneOf : {A : Type 0} → List (List ℕ × A) → List ℕ → Type 0
 IsNoneOf [] word = Unit {0}
 IsNoneOf (row ∷ table) word = (word ≡ row.0 → ⊥) × IsNoneOf table word
 
@@ -33,6 +33,9 @@ not_named (row ∷ table) word others = past_word row table word others.0 ∙ no
 
 pub no_such_kind : (word : List ℕ) → (word ≡ codes "ring" → ⊥) → (word ≡ codes "torus" → ⊥) → (word ≡ codes "tree" → ⊥) → (word ≡ codes "random" → ⊥) → None ≡ named kinds word
 no_such_kind word ring torus tree random = sym (not_named kinds word (ring, (torus, (tree, (random, tt)))))
+
+pub no_such_failing : (word : List ℕ) → (word ≡ codes "cables" → ⊥) → (word ≡ codes "switches" → ⊥) → None ≡ named failings word
+no_such_failing word cables switches = sym (not_named failings word (cables, (switches, tt)))
 
 pub no_route : {Z : Type 0} (others : List (String Z)) → length others < 2 → None ≡ route_words (texts others)
 no_route [] short = refl
@@ -65,6 +68,15 @@ no_repair (a ∷ b ∷ c ∷ []) other = refl
 no_repair (a ∷ b ∷ c ∷ d ∷ []) other = refl
 no_repair (a ∷ b ∷ c ∷ d ∷ x ∷ []) other = absurd (other (omega arith))
 no_repair (a ∷ b ∷ c ∷ d ∷ x ∷ y ∷ rest) other = refl
+
+pub no_sweep : {Z : Type 0} (others : List (String Z)) → (length others ≡ 5 → ⊥) → None ≡ sweep_words (texts others)
+no_sweep [] other = refl
+no_sweep (a ∷ []) other = refl
+no_sweep (a ∷ b ∷ []) other = refl
+no_sweep (a ∷ b ∷ c ∷ []) other = refl
+no_sweep (a ∷ b ∷ c ∷ d ∷ []) other = refl
+no_sweep (a ∷ b ∷ c ∷ d ∷ x ∷ []) other = absurd (other (omega arith))
+no_sweep (a ∷ b ∷ c ∷ d ∷ x ∷ y ∷ rest) other = refl
 
 pub show_to_missing : (from to : Option ℕ) → None ≡ option_map lid_id to → None ≡ show_from_to from to
 show_to_missing (Some from) (Some to) e = cc
@@ -108,11 +120,8 @@ no_show_plan (a ∷ b ∷ c ∷ d ∷ x ∷ rest) four item at text is other = a
 no_show_plan (a ∷ b ∷ c ∷ d ∷ []) four item at text is other =
     sym (no_files (is_file (string_bytes a)) (is_file (string_bytes b)) (show_from_to (lid_in (string_bytes c)) (lid_in (string_bytes d))) (ap (λ (w : List ℕ). is_file w) (sym (is ∙ ap string_bytes at)) ∙ other))
 
-pub no_such_command : {Z : Type 0} (words : List (String Z)) (name : String Z) → 0 < length words → name ≡ slice_index_or words 0 name →
-    (string_bytes name ≡ codes "check" → ⊥) → (string_bytes name ≡ codes "route" → ⊥) → (string_bytes name ≡ codes "certify" → ⊥) → (string_bytes name ≡ codes "convert" → ⊥) → (string_bytes name ≡ codes "repair" → ⊥) → (string_bytes name ≡ codes "cut" → ⊥) → (string_bytes name ≡ codes "show" → ⊥) → (string_bytes name ≡ codes "load" → ⊥) →
-    (string_bytes name ≡ codes "gen" → ⊥) → (string_bytes name ≡ codes "demo" → ⊥) → None ≡ command_of (texts words)
-no_such_command [] name some is check route certify convert repair cut show load gen demo = absurd (omega (arith, some))
-no_such_command {Z} (word ∷ others) name some is check route certify convert repair cut show load gen demo =
-    let P : String Z → Type 0 = λ w. None ≡ command_of (texts (w ∷ others)) in
-    subst P is (sym (ap (λ (o : Option (List (List ℕ) → Option Command)). option_and_then (λ form. form (texts others)) o)
-    (not_named commands (string_bytes name) (check, (route, (certify, (convert, (repair, (cut, (show, (load, (gen, (demo, tt)))))))))))))
+pub no_such_command : {Z : Type 0} (words : List (String Z)) (name : String Z) → 0 < length words → name ≡ slice_index_or words 0 name → IsNoneOf commands (string_bytes name) → None ≡ command_of (texts words)
+no_such_command [] name some is others = absurd (omega (arith, some))
+no_such_command {Z} (word ∷ behind) name some is others =
+    let P : String Z → Type 0 = λ w. None ≡ command_of (texts (w ∷ behind)) in
+    subst P is (sym (ap (λ (o : Option (List (List ℕ) → Option Command)). option_and_then (λ form. form (texts behind)) o) (not_named commands (string_bytes name) others)))

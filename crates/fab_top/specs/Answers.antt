@@ -20,16 +20,19 @@ use Rattle.fab_report.specs.Loads.{loads_of}
 use Rattle.fab_report.specs.Shown.{shown_text}
 use Rattle.fab_report.specs.Recipes.{generated}
 use Rattle.fab_report.specs.Summary.{summary_of}
+use Rattle.fab_sweep.specs.declared.Failing.{Failing}
+use Rattle.fab_sweep.specs.declared.rows.SweepRow.{SweepRow}
+use Rattle.fab_sweep.specs.Sweeps.{AreSweepRows}
 use Rattle.fab_top.specs.declared.command.Engine.{Engine}
 use Rattle.fab_top.specs.declared.command.Command.{Command}
-use Rattle.fab_top.specs.declared.command.Command.TheVariants.{Check, Route, Certify, Convert, Repair, Cut, Show, Load, Gen, Demo}
+use Rattle.fab_top.specs.declared.command.Command.TheVariants.{Check, Route, Certify, Convert, Repair, Cut, Show, Load, Gen, Demo, Sweep}
 use Rattle.fab_top.specs.Words.{command_of}
 use Rattle.fab_top.specs.Usage.{usage_text}
 use Rattle.fab_top.specs.Answer.{Answer, done, no}
 use Rattle.fab_top.specs.Texts.{verdict_text, ring_text, from_text, end_text}
 use Rattle.fab_top.specs.Engines.{Lays, RefusesWith}
 use Rattle.fab_top.specs.Files.{known_place}
-use Rattle.fab_top.specs.ReportTexts.{kept_text, load_text, summary_text}
+use Rattle.fab_top.specs.ReportTexts.{kept_text, load_text, summary_text, sweep_text}
 use Rattle.fab_top.specs.Seen.{Seen, After, WithFabric, WithBoth, WithoutFailed}
 
 -- ---- check
@@ -116,6 +119,11 @@ IsSummary t p answer = (verdict : Verdict) × IsVerdict t p.tables p.lanes verdi
 abbrev pub IsDemoAnswer : Engine → Topology → Answer → Type 0
 IsDemoAnswer engine t answer = AfterEngine engine IsSummary t answer
 
+-- ---- sweep
+
+abbrev pub IsSweepAnswer : Failing → ℕ → Topology → Plan → Answer → Type 0
+IsSweepAnswer what lanes t p answer = (rows : List SweepRow) × AreSweepRows t p lanes what rows × (answer ≡ done (sweep_text t rows))
+
 -- ---- by command
 
 abbrev pub IsAnswerTo : Seen → Command → Answer → Type 0
@@ -129,6 +137,7 @@ IsAnswerTo w (Show fabric plan from to) answer = WithBoth w fabric plan (IsShowA
 IsAnswerTo w (Load fabric plan) answer = WithBoth w fabric plan IsLoadAnswer answer
 IsAnswerTo w (Gen recipe) answer = IsFabricText (generated recipe) answer
 IsAnswerTo w (Demo recipe engine) answer = IsDemoAnswer engine (generated recipe) answer
+IsAnswerTo w (Sweep what fabric plan lanes) answer = WithBoth w fabric plan (IsSweepAnswer what lanes) answer
 
 abbrev pub usage : Answer
 usage = record { status = 2; out = []; err = usage_text }

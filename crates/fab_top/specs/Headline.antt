@@ -19,10 +19,12 @@ use Rattle.fab_nue.specs.NuePlan.{IsNuePlan}
 use Rattle.fab_report.specs.declared.recipe.Recipe.{Recipe}
 use Rattle.fab_report.specs.Recipes.{generated}
 use Rattle.fab_report.specs.Summary.{summary_of}
+use Rattle.fab_sweep.specs.declared.Failing.{Failing}
+use Rattle.fab_sweep.specs.Sweeps.{AreRepairsCertified}
 use Rattle.fab_top.specs.declared.command.Engine.{Engine}
 use Rattle.fab_top.specs.declared.command.Engine.TheVariants.{Nue}
 use Rattle.fab_top.specs.declared.command.Command.{Command}
-use Rattle.fab_top.specs.declared.command.Command.TheVariants.{Check, Route, Certify, Convert, Repair, Cut, Show, Load, Gen, Demo}
+use Rattle.fab_top.specs.declared.command.Command.TheVariants.{Check, Route, Certify, Convert, Repair, Cut, Show, Load, Gen, Demo, Sweep}
 use Rattle.fab_top.specs.Words.{command_of}
 use Rattle.fab_top.specs.Answer.{Answer, done}
 use Rattle.fab_top.specs.Answers.{IsAnswer, repaired}
@@ -205,6 +207,12 @@ pub record RepairsTruly (lanes : ℕ) (old : Plan) (t : Topology) (answer : Answ
   pub certified : IsCertifiedAgain t answer.out
   pub itself : (older : Option Plan) (before : List ℕ) → IsNuePlan t lanes older before old → answer ≡ repaired t old (lids_of t)
 
+-- ---- sweep
+
+-- a row for each failure is told, and the repaired plan of each is certified for the fabric that the failure leaves
+abbrev pub SweepsTruly : Failing → ℕ → Topology → Plan → Answer → Type 0
+SweepsTruly what lanes t p answer = Done answer × AreRepairsCertified t p lanes what
+
 -- by command
 abbrev pub KeepsHeadlineOf : Seen → Command → Answer → Type 0
 KeepsHeadlineOf w (Check fabric plan) answer = WithBoth w fabric plan ChecksTruly answer
@@ -217,6 +225,7 @@ KeepsHeadlineOf w (Show fabric plan from to) answer = WithBoth w fabric plan (Sh
 KeepsHeadlineOf w (Load fabric plan) answer = WithBoth w fabric plan IsDone answer
 KeepsHeadlineOf w (Gen recipe) answer = GeneratesTruly recipe answer
 KeepsHeadlineOf w (Demo recipe engine) answer = ShowsOff engine (generated recipe) answer
+KeepsHeadlineOf w (Sweep what fabric plan lanes) answer = WithBoth w fabric plan (SweepsTruly what lanes) answer
 
 abbrev pub KeepsHeadline : Seen → Answer → Type 0
 KeepsHeadline w answer = MatchOption (command_of w.words) (Unit {0}) (λ command. KeepsHeadlineOf w command answer)

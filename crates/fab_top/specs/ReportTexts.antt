@@ -1,12 +1,13 @@
--- The texts of reports, and of what a repair kept. Each ends with a line feed.
-use Rattle.std.specs.Prelude.{ℕ, List, ◌++◌, length, flat_map, slice_index, Some, codes, decimal}
+-- The texts of reports, of what a repair kept, and of a sweep. Each ends with a line feed.
+use Rattle.std.specs.Prelude.{ℕ, List, ◌++◌, length, fold, count_by, max, min, nat_lt, flat_map, slice_index, Some, codes, decimal}
 use Rattle.std.specs.List.{enumerate_from}
 use Rattle.fab_model.specs.declared.rows.ChannelRow.{ChannelRow}
 use Rattle.fab_model.specs.Topology.{Topology, lids_of}
 use Rattle.fab_dump.specs.Writing.{hex4}
 use Rattle.fab_report.specs.declared.rows.SummaryRow.{SummaryRow}
 use Rattle.fab_report.specs.Loads.{greatest}
-use Rattle.fab_top.specs.Texts.{channel_row_text}
+use Rattle.fab_sweep.specs.declared.rows.SweepRow.{SweepRow}
+use Rattle.fab_top.specs.Texts.{port_text, channel_row_text}
 
 -- ---- repair
 
@@ -47,3 +48,38 @@ summary_text row =
     ++ count_line (codes "greatest number") row.greatest_number
     ++ count_line (codes "hops") row.hops
     ++ count_line (codes "greatest load") row.greatest_load
+
+-- ---- sweep
+
+abbrev pub cost_text : List ℕ → ℕ → List ℕ
+cost_text word n = word ++ decimal n
+
+-- a failure, by its switch and port, and what it costs
+abbrev pub failure_line : Topology → SweepRow → List ℕ
+failure_line t row =
+    port_text t row.switch.0 row.port
+    ++ cost_text (codes " lost ") row.lost
+    ++ cost_text (codes " kept ") row.kept
+    ++ cost_text (codes " changed ") row.changed
+    ++ cost_text (codes " moved ") row.moved
+    ++ codes "\n"
+
+-- how many failures lose a pair
+abbrev pub losing : List SweepRow → ℕ
+losing rows = count_by (λ (row : SweepRow). nat_lt 0 row.lost) rows
+
+-- the least number of LIDs that a repair keeps, that of all LIDs where there is no failure
+abbrev pub least_kept : Topology → List SweepRow → ℕ
+least_kept t rows = fold (λ n (row : SweepRow). min n row.kept) (length (lids_of t)) rows
+
+-- the greatest number of entries that a repair changes, 0 where there is no failure
+abbrev pub greatest_changed : List SweepRow → ℕ
+greatest_changed rows = fold (λ n (row : SweepRow). max n row.changed) 0 rows
+
+abbrev pub sweep_text : Topology → List SweepRow → List ℕ
+sweep_text t rows =
+    flat_map (failure_line t) rows
+    ++ count_line (codes "failures") (length rows)
+    ++ count_line (codes "losing") (losing rows)
+    ++ count_line (codes "least kept") (least_kept t rows)
+    ++ count_line (codes "greatest changed") (greatest_changed rows)

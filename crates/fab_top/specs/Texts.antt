@@ -10,13 +10,16 @@ use Rattle.fab_tables.specs.declared.verdict.Verdict.TheVariants.{Routes, Lanes,
 use Rattle.fab_tables.specs.declared.verdict.VirtualChannel.{VirtualChannel}
 use Rattle.fab_dump.specs.Writing.{hex4, hex16, port3, two}
 
--- a switch's GUID; a channel by its switch and port; a virtual channel with its lane
+-- a switch's GUID; a port with its switch; a channel by the port from which it leaves; a virtual channel with its lane
 abbrev pub guid_text : Topology → ℕ → List ℕ
 guid_text t s = hex16 (guid_of t s)
 
+abbrev pub port_text : Topology → ℕ → ℕ → List ℕ
+port_text t s port = guid_text t s ++ codes " " ++ port3 port
+
 abbrev pub channel_row_text : Topology → Option ChannelRow → List ℕ
 channel_row_text t None = []
-channel_row_text t (Some row) = guid_text t row.tail.0 ++ codes " " ++ port3 row.port
+channel_row_text t (Some row) = port_text t row.tail.0 row.port
 
 abbrev pub channel_text : Topology → ℕ → List ℕ
 channel_text t c = channel_row_text t (slice_get t.channels c)

@@ -11,6 +11,7 @@
 --     load FABRIC PLAN
 --     gen KIND A B SEED
 --     demo KIND A B SEED ENGINE N
+--     sweep cables|switches FABRIC PLAN --lanes N
 -- A file's word is not empty and does not begin with two dashes. A file is named by the place of its word. Numbers are
 -- decimal, without leading zeros. A LID is a decimal number, or `0x` and 1 to 4 hexadecimal digits. A GUID is `0x` and 1 to 16
 -- hexadecimal digits. N is a lane count, 1 to 15, and 0 in a demonstration of an engine that takes none.
@@ -26,6 +27,8 @@ use Rattle.fab_report.specs.declared.recipe.Kind.{Kind}
 use Rattle.fab_report.specs.declared.recipe.Kind.TheVariants as kind
 use Rattle.fab_report.specs.declared.recipe.Recipe.{Recipe}
 use Rattle.fab_report.specs.Recipes.{fits}
+use Rattle.fab_sweep.specs.declared.Failing.{Failing}
+use Rattle.fab_sweep.specs.declared.Failing.TheVariants as failing
 use Rattle.fab_top.specs.declared.command.Engine.{Engine}
 use Rattle.fab_top.specs.declared.command.Engine.TheVariants as engine
 use Rattle.fab_top.specs.declared.engine_words.Asked.{Asked}
@@ -177,6 +180,14 @@ demo_words (word ∷ a ∷ b ∷ seed ∷ name ∷ count ∷ []) =
     option_and_then (λ recipe. option_map (command.Demo recipe) (option_and_then (engine_in name) (asked_by count))) (recipe_in word a b seed)
 demo_words _ = None
 
+abbrev pub failings : List (List ℕ × Failing)
+failings = (codes "cables", failing.Cables) ∷ (codes "switches", failing.Switches) ∷ []
+
+abbrev pub sweep_words : List (List ℕ) → Option Command
+sweep_words (word ∷ fabric ∷ plan ∷ flag ∷ count ∷ []) =
+    option_and_then (λ what. option_and_then (λ lanes. then_some (is_file fabric && is_file plan) (command.Sweep what 2 3 lanes)) (flagged_lanes flag count)) (named failings word)
+sweep_words _ = None
+
 abbrev pub commands : List (List ℕ × (List (List ℕ) → Option Command))
 commands =
     (codes "check", two_files command.Check)
@@ -189,6 +200,7 @@ commands =
     ∷ (codes "load", two_files command.Load)
     ∷ (codes "gen", gen_words)
     ∷ (codes "demo", demo_words)
+    ∷ (codes "sweep", sweep_words)
     ∷ []
 
 -- the command that the words spell, if they are in the grammar

@@ -4,6 +4,7 @@
 use crate::guid_list::GuidList;
 use fab_model::Lid;
 use fab_report::Recipe;
+use fab_sweep::Failing;
 
 /// A routing engine, with what it is asked for.
 #[derive(Drop)]
@@ -80,5 +81,12 @@ pub enum Command {
     Demo {
         recipe: Recipe,
         engine: Engine,
+    },
+    /// What each single failure of cables or switches costs a plan that is repaired after it on so many lanes, 1 to 15.
+    Sweep {
+        what: Failing,
+        fabric: usize,
+        plan: usize,
+        lanes: u8,
     },
 }

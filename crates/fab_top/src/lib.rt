@@ -16,6 +16,7 @@ mod outputs;
 mod outside_tests;
 mod report_texts;
 mod routing;
+mod sweep_texts;
 #[cfg(test)]
 mod tests;
 mod texts;

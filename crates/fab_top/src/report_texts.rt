@@ -58,7 +58,7 @@ pub(crate) fn load_text(
 }
 
 /// What is counted, and how many there are.
-fn push_count(to: &mut Vec<u8>, word: &[u8], count: u64) -> Result<(), AllocError>
+pub(crate) fn push_count(to: &mut Vec<u8>, word: &[u8], count: u64) -> Result<(), AllocError>
     ensures { OnOk result (to.new.items ≡ to.old.items ++ count_line word.now count) }
 {
     to.extend_from_slice(word)?;

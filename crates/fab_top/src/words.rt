@@ -2,7 +2,7 @@
 //! length of the words gives.
 ghost use Rattle.std.specs.Prelude.{◌≡◌, ◌≤◌, IfSome, IfOk, option_map};
 ghost use Rattle.std.specs.Bool.{then_some};
-ghost use Rattle.fab_top.specs.Words.{texts, command_of, is_file, are_two_files, has_leading_zero, number_in, named, kinds, lid_in, lanes_in, flagged_lanes, are_three_files, repair_words, show_from_to, show_words, recipe_in, gen_words};
+ghost use Rattle.fab_top.specs.Words.{texts, command_of, is_file, are_two_files, has_leading_zero, number_in, named, kinds, lid_in, lanes_in, flagged_lanes, are_three_files, repair_words, show_from_to, show_words, recipe_in, gen_words, failings, sweep_words};
 ghost use Rattle.fab_top.specs.ReadWords.{or_unknown, wants_memory};
 ghost use Rattle.fab_text.specs.Fields.{hex};
 ghost use Rattle.fab_text.specs.Readings.{Gives};
@@ -12,6 +12,7 @@ use crate::command::Command;
 use crate::engine_words::{demo_words, lanes_in, route_words};
 use fab_model::Lid;
 use fab_report::{Kind, Recipe};
+use fab_sweep::Failing;
 use fab_text::{read_dec, read_hex};
 use std::alloc::{AllocError, Global};
 use thiserror::Error;
@@ -195,6 +196,34 @@ fn gen_words(others: &[String]) -> Option<Command>
     }
 }
 
+fn failing_in(word: &str) -> Option<Failing>
+    ensures { result ≡ named failings word.now }
+{
+    match word {
+        "cables" => Some(Failing::Cables),
+        "switches" => Some(Failing::Switches),
+        _ => None,
+    }
+}
+
+fn sweep_words(others: &[String]) -> Option<Command>
+    ensures { result ≡ sweep_words (texts others.now) }
+{
+    match others {
+        [what, fabric, plan, flag, count] => {
+            let what = failing_in(what.as_str())?;
+            let lanes = flagged_lanes(flag.as_str(), count.as_str())?;
+            (is_file(fabric.as_str()) && is_file(plan.as_str())).then_some(Command::Sweep {
+                what,
+                fabric: 2,
+                plan: 3,
+                lanes,
+            })
+        }
+        _ => None,
+    }
+}
+
 /// The command that the words spell, if they are in the grammar. The error is want of memory.
 fn command_of(alloc: Global, words: &[String]) -> Result<Option<Command>, AllocError>
     ensures { IfOk result (λ command. command ≡ command_of (texts words.now)) }
@@ -219,6 +248,7 @@ fn command_of(alloc: Global, words: &[String]) -> Result<Option<Command>, AllocE
         "load" => Ok(on_two_files(others, Command::Load { fabric: 1, plan: 2 })),
         "gen" => Ok(gen_words(others)),
         "demo" => Ok(demo_words(alloc, others)),
+        "sweep" => Ok(sweep_words(others)),
         _ => Ok(None),
     }
 }

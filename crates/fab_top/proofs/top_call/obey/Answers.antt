@@ -65,6 +65,15 @@ demo-requires-clause-fits g c = (is_spelled c.args.words.now _ _ c.requires c.in
 pub demo-requires-clause-lanes : goal.demo-requires-clause-lanes
 demo-requires-clause-lanes g c = (is_spelled c.args.words.now _ _ c.requires c.in-Demo.is).asks.lanes
 
+pub sweep-requires-clause-fabric : goal.sweep-requires-clause-fabric
+sweep-requires-clause-fabric g c = (is_spelled c.args.words.now _ _ c.requires c.in-Sweep.is).places.0
+
+pub sweep-requires-clause-plan : goal.sweep-requires-clause-plan
+sweep-requires-clause-plan g c = (is_spelled c.args.words.now _ _ c.requires c.in-Sweep.is).places.1.0
+
+pub sweep-requires-clause-lanes : goal.sweep-requires-clause-lanes
+sweep-requires-clause-lanes g c = (is_spelled c.args.words.now _ _ c.requires c.in-Sweep.is).asks.lanes
+
 pub returns-in-Gen : goal.returns-in-Gen
 returns-in-Gen g c = gen_obeyed c.args.command c.in-Gen.recipe _ _ _ _ c.in-Gen.is c.generate.ensures
 
