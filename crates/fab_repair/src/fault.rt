@@ -20,6 +20,7 @@ pub enum RepairFault {
     /// The first cable of the list that isn't in the fabric, by its place from 0.
     #[error("cable {index}: not in the fabric")]
     UnknownCable { index: u32 },
+    /// Memory for the fabric or the plan was refused.
     #[error("out of memory")]
     Memory(AllocError),
 }

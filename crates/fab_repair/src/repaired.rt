@@ -1,13 +1,15 @@
 //! Plans repaired after cables failed.
 //!
-//! Problem: cables between switches failed while a plan was in use, and a plan for what is left should touch no more
-//! than it must. Definition: the plan of Nue for the fabric without the failed cables, with the old plan as the one
-//! that it keeps LIDs of. A LID is kept where its old routes still arrive, its old levels are lanes of the new plan,
-//! and its old routes close no ring with the escape trees and the LIDs kept before it; every other LID is laid anew.
+//! Problem: cables between switches failed while a plan was in use, and a plan for what is left should leave as it
+//! is what can stay. Definition: the plan of Nue for the fabric without the failed cables, with the old plan as the one
+//! that it keeps LIDs of. A LID is kept where its old routes still arrive, its old levels are lanes of the new plan on
+//! which the old maps put them at every hop, and its old routes close no ring with the escape trees and the LIDs kept
+//! before it; every other LID is laid anew.
 //! So entries and levels of a kept LID stay as they were wherever it can be reached.
 //!
 //! Time and memory: those of making the fabric and its hop counts anew, and those of Nue on it.
-//! Source: Domke, Hoefler and Matsuoka, "Routing on the Dependency Graph".
+//! Source: Nue is that of Domke, Hoefler and Matsuoka, "Routing on the Dependency Graph"; which LIDs are kept is this
+//! project's own.
 ghost use Rattle.std.specs.Prelude.{◌<◌, ◌≤◌, ◌^◌, length, Some, IfOk};
 ghost use Rattle.fab_tables.specs.Fit.{PlanFits, IsTidy};
 ghost use Rattle.fab_tables.specs.Certified.{IsCertified};
@@ -26,8 +28,11 @@ use std::alloc::Global;
 /// The fabric without the failed cables, its plan, and the LIDs that kept their old routes and levels.
 #[derive(Drop)]
 pub struct Repaired {
+    /// The fabric without the failed cables.
     pub fabric: Fabric,
+    /// Nue's plan for it.
     pub plan: Plan,
+    /// The LIDs that were not laid anew, ascending.
     pub kept: LidList,
 }
 

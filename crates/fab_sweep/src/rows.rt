@@ -25,7 +25,7 @@ use std::marker::Model;
 /// What one failure costs.
 #[derive(Clone, Copy, Debug, PartialEq, Eq, Drop)]
 pub struct SweepRow {
-    /// The switch at one end of the cable that fails, or the one that fails.
+    /// The tail of the lower of the two channels of the cable that fails, or the switch that fails.
     pub switch: SwitchId,
     /// The port there at which the cable is; 0 where the switch fails with all its cables.
     pub port: u8,

@@ -125,7 +125,10 @@ fn the_only_cable_fails(rt: HostRuntime) -> Result<(), Fail> {
     let swept_cables = swept(rt.alloc(), &fabric, Failing::Cables)?;
     assert_eq!(rt; swept_cables.rows(), [cut_off(0, 1)].as_slice());
     let swept_switches = swept(rt.alloc(), &fabric, Failing::Switches)?;
-    assert_eq!(rt; swept_switches.rows(), [cut_off(0, 0), cut_off(1, 0)].as_slice());
+    assert_eq!(rt;
+        swept_switches.rows(),
+        [cut_off(0, 0), cut_off(1, 0)].as_slice()
+    );
     Ok(())
 }
 

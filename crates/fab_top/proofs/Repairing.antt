@@ -53,6 +53,7 @@ repair_keeps lanes old t a fabric x =
     record {
       done = ap (λ (b : Answer). b.status) x.3;
       certified = (x.0, again, nue_is_certified t lanes (Some old) x.1 x.0 fabric.rows count.0 count.1 x.2);
+      laid = (x.0, x.1, x.2, again);
       itself = λ older before is.
           let same : (x.1 ≡ lids_of t) × (x.0 ≡ old) = nue_keeps_itself t lanes (Some old) x.1 x.0 fabric.rows count.0 count.1 x.2 older before is in
           x.3 ∙ ap (λ (k : List ℕ). repaired t x.0 k) same.0 ∙ ap (λ (q : Plan). repaired t q (lids_of t)) same.1;

@@ -60,7 +60,7 @@ checked w t p a asks is told =
     let out : a.out ≡ ok_lanes = ap (λ (b : Answer). b.out) told in
     let safe : IsSafe t p = keeps.safe out in
     let certified : IsCertified t p = keeps.certified.0 out in
-    (safe.follows, (certified.0, certified.1, safe.rises certified.0 certified.1))
+    (safe.follows, (certified.0, certified.1, certified.3))
 
 accepted : (t : Topology) (text : List ℕ) → IsCertifiedAgain t text → IsAccepted t text
 accepted t text again w fabric plan a spelled says holds is =

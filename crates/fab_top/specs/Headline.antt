@@ -8,7 +8,7 @@ use Rattle.fab_model.specs.Connected.{IsConnectedTo}
 use Rattle.fab_model.specs.WellFormed.{IsFabric}
 use Rattle.fab_tables.specs.declared.plan.Plan.{Plan}
 use Rattle.fab_tables.specs.declared.end.End.TheVariants.{Delivered}
-use Rattle.fab_tables.specs.Certified.{Reaches, IsCertified, number_of}
+use Rattle.fab_tables.specs.Certified.{HasRisingNumbers, Reaches, IsCertified, number_of}
 use Rattle.fab_tables.specs.Dependencies.{AreReadLanes, Depends}
 use Rattle.fab_tables.specs.Entries.{Entries}
 use Rattle.fab_tables.specs.LaneTables.{LaneTables}
@@ -79,9 +79,10 @@ AsksLanes w t = ((engine : Engine) × IsTrue (has_lanes engine) × AsksRoute w e
 abbrev pub AsksNue : Seen → Topology → Type 0
 AsksNue w t = ((lanes : ℕ) × AsksRoute w (Nue lanes) t) ⊎ AsksRepair w t
 
--- the plan has lanes, whose numbers rise along every two virtual channels that a source's route uses in succession
+-- the plan has lanes with a level for every source's route and a number for every virtual channel that one uses, and the numbers rise along every
+-- two of them in succession
 abbrev pub RisesAlongRoutes : Topology → Plan → Type 0
-RisesAlongRoutes t p = (l : LaneTables) × (p.lanes ≡ Some l) × Rises (number_of l) (Depends t p.tables l)
+RisesAlongRoutes t p = (l : LaneTables) × (p.lanes ≡ Some l) × HasRisingNumbers t p.tables l
 
 -- `check`, asked of this fabric and a file that holds the text, answers ok with lanes
 abbrev pub IsAccepted : Topology → List ℕ → Type 0
@@ -205,11 +206,12 @@ pub record ShowsOff (engine : Engine) (t : Topology) (answer : Answer) : Type 0 
 pub record RepairsTruly (lanes : ℕ) (old : Plan) (t : Topology) (answer : Answer) : Type 0 where
   pub done : Done answer
   pub certified : IsCertifiedAgain t answer.out
+  pub laid : (p : Plan) × (kept : List ℕ) × IsNuePlan t lanes (Some old) kept p × IsReadAgain t p answer.out
   pub itself : (older : Option Plan) (before : List ℕ) → IsNuePlan t lanes older before old → answer ≡ repaired t old (lids_of t)
 
 -- ---- sweep
 
--- a row for each failure is told, and the repaired plan of each is certified for the fabric that the failure leaves
+-- it is done, and the repaired plan of each failure is certified for the fabric that the failure leaves
 abbrev pub SweepsTruly : Failing → ℕ → Topology → Plan → Answer → Type 0
 SweepsTruly what lanes t p answer = Done answer × AreRepairsCertified t p lanes what
 

@@ -1,5 +1,5 @@
-//! Engines that lay a plan on a given number of lanes, or say that they need another, which Nue never does. The time and memory are those of the
-//! engines, and of hop counts.
+//! Engines that lay a plan on a given number of lanes, or say that they need another, which Nue never does. The time and
+//! memory are those of the engines, and of hop counts.
 ghost use Rattle.fab_top.specs.Engines.{IsLaneCount};
 ghost use Rattle.fab_top.specs.Outcomes.{LaysRightly};
 ghost use Rattle.fab_top.specs.declared.command.Engine.TheVariants as engine;

@@ -23,6 +23,7 @@ pub enum WordsFault {
     /// The words are not in the grammar.
     #[error("unknown words")]
     Words,
+    /// Memory for the words of a command was refused.
     #[error("out of memory")]
     Memory(AllocError),
 }
