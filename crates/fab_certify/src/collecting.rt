@@ -173,7 +173,7 @@ fn collect_hops(
 }
 
 /// The number of a virtual channel by (channel, lane), where there are so many lanes.
-pub(crate) fn node_of(count: u8, hop: VirtualChannel) -> u32
+pub fn node_of(count: u8, hop: VirtualChannel) -> u32
     requires { hop.channel.0 * count + hop.lane < 2 ^ 32 }
     ensures { result ≡ number_by_lane count hop }
 {

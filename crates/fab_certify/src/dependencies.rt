@@ -12,7 +12,7 @@ use std::marker::Model;
 /// The numbers of the virtual channels that routes use, and the graph of the pairs of numbers that follow each
 /// other on a route, each once.
 #[derive(Drop)]
-pub(crate) struct Dependencies {
+pub struct Dependencies {
     used: Vec<bool>,
     followers: Followers,
     graph: Graph,
@@ -30,7 +30,7 @@ impl Model for Dependencies {
 
 impl Dependencies {
     /// None, where there are so many virtual channels.
-    pub(crate) fn new(alloc: Global, nodes: u32) -> Result<Dependencies, AllocError>
+    pub fn new(alloc: Global, nodes: u32) -> Result<Dependencies, AllocError>
         ensures used { IfOk result (λ d. d.used ≡ replicate nodes false) }
         ensures pairs { IfOk result (λ d. d.pairs ≡ []) }
     {
@@ -42,7 +42,7 @@ impl Dependencies {
     }
 
     /// Adds a hop, which depends on the one before.
-    pub(crate) fn add(&mut self, before: Option<u32>, node: u32) -> Result<(), AllocError>
+    pub fn add(&mut self, before: Option<u32>, node: u32) -> Result<(), AllocError>
         requires node { node < length self.old.used }
         requires before { IfSome before (λ first. first < length self.old.used) }
         ensures { OnOk result (AddsHop before node self.old self.new) }
@@ -58,7 +58,7 @@ impl Dependencies {
     }
 
     /// Whether the virtual channel of a number is used.
-    pub(crate) fn is_used(&self, node: u32) -> bool
+    pub fn is_used(&self, node: u32) -> bool
         requires { node < length self.now.used }
         ensures { IsTrue result ↔ IsMarked self.now node }
     {
@@ -66,7 +66,7 @@ impl Dependencies {
     }
 
     /// The dependencies as a graph on the numbers.
-    pub(crate) fn graph(&self) -> &Graph
+    pub fn graph(&self) -> &Graph
         ensures nodes { result.now.nodes ≡ length self.now.used }
         ensures edges { result.now.edges ≡ self.now.pairs }
     {

@@ -11,12 +11,15 @@ mod numbers;
 mod one_lane;
 
 pub use certified::{Certified, certify};
+pub use collecting::node_of;
+pub use dependencies::Dependencies;
 pub use fab_rings::{Graph, Ring, first_ring, levels};
 pub use lane_per_level::engine_lanes;
 pub use laws::{
     certificate_exists, numbered_is_certified, one_certificate, plain_certificate,
     refusal_is_unsound,
 };
+pub use numbers::set_numbers;
 
 #[cfg(test)]
 mod tests;

@@ -13,7 +13,7 @@ use fab_model::ChannelId;
 use fab_tables::{Lanes, VirtualChannel};
 
 /// Gives each virtual channel that is used its level as number, and 0 to every other.
-pub(crate) fn set_numbers(
+pub fn set_numbers(
     lanes: &mut Lanes,
     channels: u32,
     dependencies: &Dependencies,

@@ -28,3 +28,4 @@ pub use fault::PlanFault;
 pub use laws::{read_is_tidy, written_is_read, written_is_short};
 pub use read::read_plan;
 pub use write::{WriteFault, write_plan};
+pub use write_blocks::push_numbers;

@@ -407,8 +407,8 @@ fn push_number_line(
     push(text, b"\n")
 }
 
-/// Appends the number rows of a channel.
-pub(crate) fn push_numbers(
+/// Appends the number rows of a channel, as they stand in the text of a plan.
+pub fn push_numbers(
     text: &mut Vec<u8>,
     fabric: &Fabric,
     lanes: &Lanes,

@@ -18,7 +18,7 @@ use Rattle.fab_netdiscover.specs.Writing.{text_of}
 use Rattle.fab_report.specs.Loads.{loads_of}
 use Rattle.fab_report.specs.Recipes.{generated}
 use Rattle.fab_top.specs.declared.command.Command.{Command}
-use Rattle.fab_top.specs.declared.command.Command.TheVariants.{Check, Route, Certify, Convert, Repair, Cut, Show, Load, Gen, Demo, Sweep}
+use Rattle.fab_top.specs.declared.command.Command.TheVariants.{Check, Route, Certify, Convert, Repair, Cut, Show, Load, Gen, Demo, Transit, Sweep}
 use Rattle.fab_top.specs.Answer.{Answer, done}
 use Rattle.fab_top.specs.Answers.{IsAnswerTo, IsCheckAnswer, IsRouteAnswer, IsCertifyAnswer, IsPlanText, IsShowAnswer, IsLoadAnswer, IsSweepAnswer, verdict_answer, certified_answer, usage}
 use Rattle.fab_top.specs.Headline.{KeepsHeadlineOf, ChecksTruly, RoutesTruly, CertifiesTruly, ConvertsTruly, ShowsTruly, IsDone, SweepsTruly}
@@ -36,6 +36,7 @@ use Rattle.fab_top.proofs.Loading.{load_keeps}
 use Rattle.fab_top.proofs.Laying.EngineAnswers.{one_route, route_keeps, route_is_small, route_exists, one_demo, demo_keeps, demo_is_small, demo_exists}
 use Rattle.fab_top.proofs.Repairing.{repair_kept, one_repair, repair_is_small, repair_exists}
 use Rattle.fab_top.proofs.Showing.{one_show, show_keeps, show_is_small, show_exists}
+use Rattle.fab_top.proofs.Transiting.{transit_kept, one_transit, transit_is_small, transit_exists}
 use Rattle.fab_top.proofs.Sweeping.{one_sweep, sweep_keeps, sweep_is_small, sweep_exists}
 use Rattle.fab_top.proofs.SpelledCommands.{CanBeDone, can_be_done}
 
@@ -131,6 +132,8 @@ one_answer_to w (Some (Load fabric plan)) a b doable told first second =
     both_one w fabric plan IsLoadAnswer a b told (λ t p read x y. x ∙ sym y) first second
 one_answer_to w (Some (Gen recipe)) a b doable told first second = first ∙ sym second
 one_answer_to w (Some (Demo recipe engine)) a b doable told first second = one_demo engine (generated recipe) a b (fitting_is_fabric recipe doable.recipe) first second
+one_answer_to w (Some (Transit fabric old new)) a b doable told first second =
+    one_transit w fabric old new (first_told w fabric (old ∷ new ∷ []) told) (second_told w fabric old (new ∷ []) told) (third_told w fabric old new told) a b first second
 one_answer_to w (Some (Sweep what fabric plan lanes)) a b doable told first second =
     both_one w fabric plan (IsSweepAnswer what lanes) a b told (λ t p read x y. one_sweep what lanes t p a b read.fabric doable.lanes x y) first second
 
@@ -160,6 +163,7 @@ keeps_by w (Some (Show fabric plan from to)) a doable is = both_weaker w fabric 
 keeps_by w (Some (Load fabric plan)) a doable is = both_weaker w fabric plan IsLoadAnswer IsDone a (λ t p read x. load_keeps t p a x) is
 keeps_by w (Some (Gen recipe)) a doable is = generates_truly recipe a doable.recipe is
 keeps_by w (Some (Demo recipe engine)) a doable is = demo_keeps engine (generated recipe) a (fitting_is_fabric recipe doable.recipe) is
+keeps_by w (Some (Transit fabric old new)) a doable is = transit_kept w fabric old new a is
 keeps_by w (Some (Sweep what fabric plan lanes)) a doable is =
     both_weaker w fabric plan (IsSweepAnswer what lanes) (SweepsTruly what lanes) a (λ t p read x. sweep_keeps what lanes t p a read.fabric doable.lanes x) is
 
@@ -191,6 +195,8 @@ small_by w (Some (Load fabric plan)) a told is =
     both_small w fabric plan IsLoadAnswer a told (λ t p x. done_is_small (load_text t (loads_of t p.tables)) a x) is
 small_by w (Some (Gen recipe)) a told is = at_most_3 a.status (done_is_small (text_of (generated recipe)) a is)
 small_by w (Some (Demo recipe engine)) a told is = demo_is_small engine (generated recipe) a is
+small_by w (Some (Transit fabric old new)) a told is =
+    transit_is_small w fabric old new (first_told w fabric (old ∷ new ∷ []) told) (second_told w fabric old (new ∷ []) told) (third_told w fabric old new told) a is
 small_by w (Some (Sweep what fabric plan lanes)) a told is = both_small w fabric plan (IsSweepAnswer what lanes) a told (λ t p x. sweep_is_small what lanes t p a x) is
 
 pub status_is_small : StatusIsSmall
@@ -218,6 +224,8 @@ exists_by w (Some (Show fabric plan from to)) doable told = both_exist w fabric 
 exists_by w (Some (Load fabric plan)) doable told = both_exist w fabric plan IsLoadAnswer told (λ t p read. (done (load_text t (loads_of t p.tables)), refl))
 exists_by w (Some (Gen recipe)) doable told = (done (text_of (generated recipe)), refl)
 exists_by w (Some (Demo recipe engine)) doable told = demo_exists engine (generated recipe) (fitting_is_fabric recipe doable.recipe) doable.lanes
+exists_by w (Some (Transit fabric old new)) doable told =
+    transit_exists w fabric old new (first_told w fabric (old ∷ new ∷ []) told) (second_told w fabric old (new ∷ []) told) (third_told w fabric old new told)
 exists_by w (Some (Sweep what fabric plan lanes)) doable told = both_exist w fabric plan (IsSweepAnswer what lanes) told (λ t p read. sweep_exists what lanes t p read doable.lanes)
 
 pub answer_exists : AnswerExists

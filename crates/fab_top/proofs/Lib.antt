@@ -15,6 +15,7 @@ pub mod Loading
 pub mod Showing
 pub mod Laying
 pub mod Repairing
+pub mod Transiting
 pub mod Sweeping
 pub mod Answering
 pub mod TheHeadline

@@ -13,9 +13,9 @@ use Rattle.fab_sweep.specs.declared.Failing.{Failing}
 use Rattle.fab_top.specs.declared.command.Engine.{Engine}
 use Rattle.fab_top.specs.Engines.{IsLaneCount, HasLaneCount}
 use Rattle.fab_top.specs.declared.command.Command.{Command}
-use Rattle.fab_top.specs.declared.command.Command.TheVariants.{Check, Route, Certify, Convert, Repair, Cut, Load, Gen, Demo, Sweep}
+use Rattle.fab_top.specs.declared.command.Command.TheVariants.{Check, Route, Certify, Convert, Repair, Cut, Load, Gen, Demo, Transit, Sweep}
 use Rattle.fab_top.specs.Ran.{files_of}
-use Rattle.fab_top.specs.Words.{texts, is_file, named, number_in, kinds, two_files, recipe_of, recipe_in, lid_in, flagged_lanes, are_three_files, repair_words, show_from_to, show_words, gen_words, engine_in, asked_behind, asked_by, route_words, demo_words, failings, sweep_words, commands, command_of}
+use Rattle.fab_top.specs.Words.{texts, is_file, named, number_in, kinds, two_files, recipe_of, recipe_in, lid_in, flagged_lanes, are_three_files, repair_words, show_from_to, show_words, gen_words, engine_in, asked_behind, asked_by, route_words, demo_words, transit_words, failings, sweep_words, commands, command_of}
 use Rattle.fab_top.proofs.LowNumbers.{number_is_low}
 use Rattle.fab_top.proofs.AskedLanes.{engine_after, asked_behind_rightly, asked_by_rightly, flagged_in_range}
 
@@ -172,6 +172,14 @@ demo_within (a ∷ b ∷ c ∷ d ∷ x ∷ []) made e = cc
 demo_within (a ∷ b ∷ c ∷ d ∷ x ∷ y ∷ []) made e = made_demo (recipe_in a b c d) (option_and_then (engine_in x) (asked_by y)) made (spelled_recipe_fits a b c d) (engine_after x (asked_by y) (asked_by_rightly y)) e
 demo_within (a ∷ b ∷ c ∷ d ∷ x ∷ y ∷ z ∷ rest) made e = cc
 
+transit_within : SpellsRightly transit_words
+transit_within [] made e = cc
+transit_within (a ∷ []) made e = cc
+transit_within (a ∷ b ∷ []) made e = cc
+transit_within (a ∷ b ∷ c ∷ []) made e =
+    made_if 4 (are_three_files a b c) (Transit 1 2 3) made e (record { places = (omega arith, (omega arith, (omega arith, tt))); asks = record { recipe = tt; lanes = tt } })
+transit_within (a ∷ b ∷ c ∷ d ∷ rest) made e = cc
+
 made_sweep : (files : Bool) (what : Option Failing) (lanes : Option ℕ) (made : Command) → IfSome lanes IsLaneCount →
     option_and_then (λ one. option_and_then (λ n. then_some files (Sweep one 2 3 n)) lanes) what ≡ Some made → IsSpelledBy 6 made
 made_sweep files None lanes made count e = cc
@@ -228,7 +236,7 @@ all_right = (
               show_within,
               (
                 two_within (λ f p. Load f p) (record { places = both_places; asks = record { recipe = tt; lanes = tt } }),
-                (gen_within, (demo_within, (sweep_within, tt))),
+                (gen_within, (demo_within, (transit_within, (sweep_within, tt)))),
               ),
             ),
           ),

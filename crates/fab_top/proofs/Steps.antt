@@ -4,5 +4,6 @@ pub mod Taking
 pub mod WithoutFiles
 pub mod OnFabric
 pub mod OnBoth
+pub mod OnTwoPlans
 pub mod AfterFiles
 pub mod AfterList

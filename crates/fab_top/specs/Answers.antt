@@ -20,20 +20,25 @@ use Rattle.fab_report.specs.Loads.{loads_of}
 use Rattle.fab_report.specs.Shown.{shown_text}
 use Rattle.fab_report.specs.Recipes.{generated}
 use Rattle.fab_report.specs.Summary.{summary_of}
+use Rattle.fab_transit.specs.declared.mixed.Mixed.{Mixed}
+use Rattle.fab_transit.specs.declared.mixed.Mixed.TheVariants as mixed
+use Rattle.fab_transit.specs.MixedWalks.{Change, bound}
+use Rattle.fab_transit.specs.Answers as change
 use Rattle.fab_sweep.specs.declared.Failing.{Failing}
 use Rattle.fab_sweep.specs.declared.rows.SweepRow.{SweepRow}
 use Rattle.fab_sweep.specs.Sweeps.{AreSweepRows}
 use Rattle.fab_top.specs.declared.command.Engine.{Engine}
 use Rattle.fab_top.specs.declared.command.Command.{Command}
-use Rattle.fab_top.specs.declared.command.Command.TheVariants.{Check, Route, Certify, Convert, Repair, Cut, Show, Load, Gen, Demo, Sweep}
+use Rattle.fab_top.specs.declared.command.Command.TheVariants.{Check, Route, Certify, Convert, Repair, Cut, Show, Load, Gen, Demo, Transit, Sweep}
 use Rattle.fab_top.specs.Words.{command_of}
 use Rattle.fab_top.specs.Usage.{usage_text}
 use Rattle.fab_top.specs.Answer.{Answer, done, no}
 use Rattle.fab_top.specs.Texts.{verdict_text, ring_text, from_text, end_text}
 use Rattle.fab_top.specs.Engines.{Lays, RefusesWith}
 use Rattle.fab_top.specs.Files.{known_place}
+use Rattle.fab_top.specs.ChangeTexts.{mixed_text}
 use Rattle.fab_top.specs.ReportTexts.{kept_text, load_text, summary_text, sweep_text}
-use Rattle.fab_top.specs.Seen.{Seen, After, WithFabric, WithBoth, WithoutFailed}
+use Rattle.fab_top.specs.Seen.{Seen, After, WithFabric, WithPlan, WithBoth, WithoutFailed}
 
 -- ---- check
 
@@ -119,6 +124,23 @@ IsSummary t p answer = (verdict : Verdict) × IsVerdict t p.tables p.lanes verdi
 abbrev pub IsDemoAnswer : Engine → Topology → Answer → Type 0
 IsDemoAnswer engine t answer = AfterEngine engine IsSummary t answer
 
+-- ---- transit
+
+-- what is said of a change: numbers on the output, a fault or a ring on the error output
+abbrev pub told_change : Mixed → List ℕ → Answer
+told_change (mixed.Numbers l) text = done text
+told_change other text = no text
+
+abbrev pub change_answer : Topology → ℕ → Mixed → Answer
+change_answer t count told = told_change told (mixed_text t count told)
+
+abbrev pub change_of : Plan → Plan → Change
+change_of old new = record { before = old; after = new }
+
+abbrev pub IsTransitAnswer : Topology → Plan → Plan → Answer → Type 0
+IsTransitAnswer t old new answer =
+    (told : Mixed) × change.IsAnswerTo t (change_of old new) told × (answer ≡ change_answer t (bound (change_of old new)) told)
+
 -- ---- sweep
 
 abbrev pub IsSweepAnswer : Failing → ℕ → Topology → Plan → Answer → Type 0
@@ -137,6 +159,7 @@ IsAnswerTo w (Show fabric plan from to) answer = WithBoth w fabric plan (IsShowA
 IsAnswerTo w (Load fabric plan) answer = WithBoth w fabric plan IsLoadAnswer answer
 IsAnswerTo w (Gen recipe) answer = IsFabricText (generated recipe) answer
 IsAnswerTo w (Demo recipe engine) answer = IsDemoAnswer engine (generated recipe) answer
+IsAnswerTo w (Transit fabric old new) answer = WithBoth w fabric old (λ t p. WithPlan w t new (IsTransitAnswer t p)) answer
 IsAnswerTo w (Sweep what fabric plan lanes) answer = WithBoth w fabric plan (IsSweepAnswer what lanes) answer
 
 abbrev pub usage : Answer

@@ -19,20 +19,24 @@ use Rattle.fab_nue.specs.NuePlan.{IsNuePlan}
 use Rattle.fab_report.specs.declared.recipe.Recipe.{Recipe}
 use Rattle.fab_report.specs.Recipes.{generated}
 use Rattle.fab_report.specs.Summary.{summary_of}
+use Rattle.fab_transit.specs.MixedWalks.{DependsMixed}
+use Rattle.fab_transit.specs.Answers.{HasNoFault}
+use Rattle.fab_transit.specs.Safe as change
 use Rattle.fab_sweep.specs.declared.Failing.{Failing}
 use Rattle.fab_sweep.specs.Sweeps.{AreRepairsCertified}
 use Rattle.fab_top.specs.declared.command.Engine.{Engine}
 use Rattle.fab_top.specs.declared.command.Engine.TheVariants.{Nue}
 use Rattle.fab_top.specs.declared.command.Command.{Command}
-use Rattle.fab_top.specs.declared.command.Command.TheVariants.{Check, Route, Certify, Convert, Repair, Cut, Show, Load, Gen, Demo, Sweep}
+use Rattle.fab_top.specs.declared.command.Command.TheVariants.{Check, Route, Certify, Convert, Repair, Cut, Show, Load, Gen, Demo, Transit, Sweep}
 use Rattle.fab_top.specs.Words.{command_of}
 use Rattle.fab_top.specs.Answer.{Answer, done}
-use Rattle.fab_top.specs.Answers.{IsAnswer, repaired}
+use Rattle.fab_top.specs.Answers.{IsAnswer, repaired, change_of}
 use Rattle.fab_top.specs.Engines.{Lays, RefusesWith, has_lanes, never_refuses}
 use Rattle.fab_top.specs.Files.{fabric_limit, fabric_in, plan_in, failed_in, without_failed, known_place}
+use Rattle.fab_top.specs.ChangeTexts.{transit_text}
 use Rattle.fab_top.specs.ReportTexts.{summary_text}
 use Rattle.fab_top.specs.Texts.{ok_routes, ok_lanes}
-use Rattle.fab_top.specs.Seen.{Seen, Content, After, WithFabric, WithBoth, WithoutFailed, word_at}
+use Rattle.fab_top.specs.Seen.{Seen, Content, After, WithFabric, WithPlan, WithBoth, WithoutFailed, word_at}
 
 -- following the tables from every switch reaches every LID connected to it, and meets no switch twice
 abbrev pub FollowsWell : Topology → Entries → Type 0
@@ -209,6 +213,14 @@ pub record RepairsTruly (lanes : ℕ) (old : Plan) (t : Topology) (answer : Answ
   pub laid : (p : Plan) × (kept : List ℕ) × IsNuePlan t lanes (Some old) kept p × IsReadAgain t p answer.out
   pub itself : (older : Option Plan) (before : List ℕ) → IsNuePlan t lanes older before old → answer ≡ repaired t old (lids_of t)
 
+-- ---- transit
+
+-- The change is done exactly where no packet loses its way or its lane and no ring of virtual channels waits for itself, and then it is
+-- safe under traffic, with the numbers that are told.
+pub record TransitsTruly (t : Topology) (old new : Plan) (answer : Answer) : Type 0 where
+  pub done : Done answer ↔ (HasNoFault t (change_of old new) × IsAcyclic (DependsMixed t (change_of old new)))
+  pub safe : Done answer → (l : LaneTables) × change.IsSafe t (change_of old new) l × (answer.out ≡ transit_text t l)
+
 -- ---- sweep
 
 -- it is done, and the repaired plan of each failure is certified for the fabric that the failure leaves
@@ -227,6 +239,7 @@ KeepsHeadlineOf w (Show fabric plan from to) answer = WithBoth w fabric plan (Sh
 KeepsHeadlineOf w (Load fabric plan) answer = WithBoth w fabric plan IsDone answer
 KeepsHeadlineOf w (Gen recipe) answer = GeneratesTruly recipe answer
 KeepsHeadlineOf w (Demo recipe engine) answer = ShowsOff engine (generated recipe) answer
+KeepsHeadlineOf w (Transit fabric old new) answer = WithBoth w fabric old (λ t p. WithPlan w t new (TransitsTruly t p)) answer
 KeepsHeadlineOf w (Sweep what fabric plan lanes) answer = WithBoth w fabric plan (SweepsTruly what lanes) answer
 
 abbrev pub KeepsHeadline : Seen → Answer → Type 0

@@ -5,6 +5,7 @@ pub mod Answer
 pub mod Engines
 pub mod Texts
 pub mod ReportTexts
+pub mod ChangeTexts
 pub mod FaultTexts
 pub mod Files
 pub mod Seen

@@ -5,7 +5,7 @@ use Rattle.std.specs.Prelude.{◌≡◌, ℕ, ◌<◌, ◌≤◌, ◌⊎◌, Lis
 use Rattle.std.specs.Option.{option_map_or}
 use Rattle.fab_io.specs.Faults.{Rose}
 use Rattle.fab_top.specs.declared.command.Command.{Command}
-use Rattle.fab_top.specs.declared.command.Command.TheVariants.{Check, Route, Certify, Convert, Repair, Cut, Show, Load, Gen, Demo, Sweep}
+use Rattle.fab_top.specs.declared.command.Command.TheVariants.{Check, Route, Certify, Convert, Repair, Cut, Show, Load, Gen, Demo, Transit, Sweep}
 use Rattle.fab_top.specs.Words.{command_of}
 use Rattle.fab_top.specs.Answer.{Answer, unread}
 use Rattle.fab_top.specs.Seen.{seen, seen_failing, word_at}
@@ -35,6 +35,7 @@ files_of (Show fabric plan from to) = fabric ∷ plan ∷ []
 files_of (Load fabric plan) = fabric ∷ plan ∷ []
 files_of (Gen recipe) = []
 files_of (Demo recipe engine) = []
+files_of (Transit fabric old new) = fabric ∷ old ∷ new ∷ []
 files_of (Sweep what fabric plan lanes) = fabric ∷ plan ∷ []
 
 abbrev pub files_named : List (List ℕ) → List ℕ

@@ -45,12 +45,16 @@ end_text DeadPort = codes "dead port"
 end_text Astray = codes "astray"
 end_text Loop = codes "loop"
 
--- what is wrong on the way from a switch to a LID
-abbrev pub from_front : Topology → ℕ → ℕ → List ℕ
-from_front t lid s = codes "no: lid " ++ hex4 lid ++ codes " from switch " ++ guid_text t s ++ codes ": "
+-- what goes before the words for a fault on the way to a LID, with words before the switch
+abbrev pub lid_front : Topology → ℕ → List ℕ → ℕ → List ℕ
+lid_front t lid before s = codes "no: lid " ++ hex4 lid ++ before ++ guid_text t s ++ codes ": "
 
+-- what is wrong on the way from a switch to a LID, and at a switch on the way
 abbrev pub from_text : Topology → ℕ → ℕ → List ℕ → List ℕ
-from_text t lid s what = from_front t lid s ++ what ++ codes "\n"
+from_text t lid s what = lid_front t lid (codes " from switch ") s ++ what ++ codes "\n"
+
+abbrev pub at_text : Topology → ℕ → ℕ → List ℕ → List ℕ
+at_text t lid s what = lid_front t lid (codes " at switch ") s ++ what ++ codes "\n"
 
 abbrev pub numbered_text : Topology → VirtualChannel → ℕ → List ℕ
 numbered_text t v n = virtual_text t v ++ codes " number " ++ decimal n

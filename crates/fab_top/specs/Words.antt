@@ -11,6 +11,7 @@
 --     load FABRIC PLAN
 --     gen KIND A B SEED
 --     demo KIND A B SEED ENGINE N
+--     transit FABRIC OLD NEW
 --     sweep cables|switches FABRIC PLAN --lanes N
 -- A file's word is not empty and does not begin with two dashes. A file is named by the place of its word. Numbers are
 -- decimal, without leading zeros. A LID is a decimal number, or `0x` and 1 to 4 hexadecimal digits. A GUID is `0x` and 1 to 16
@@ -180,6 +181,10 @@ demo_words (word ∷ a ∷ b ∷ seed ∷ name ∷ count ∷ []) =
     option_and_then (λ recipe. option_map (command.Demo recipe) (option_and_then (engine_in name) (asked_by count))) (recipe_in word a b seed)
 demo_words _ = None
 
+abbrev pub transit_words : List (List ℕ) → Option Command
+transit_words (fabric ∷ old ∷ new ∷ []) = then_some (are_three_files fabric old new) (command.Transit 1 2 3)
+transit_words _ = None
+
 abbrev pub failings : List (List ℕ × Failing)
 failings = (codes "cables", failing.Cables) ∷ (codes "switches", failing.Switches) ∷ []
 
@@ -200,6 +205,7 @@ commands =
     ∷ (codes "load", two_files command.Load)
     ∷ (codes "gen", gen_words)
     ∷ (codes "demo", demo_words)
+    ∷ (codes "transit", transit_words)
     ∷ (codes "sweep", sweep_words)
     ∷ []
 

@@ -82,6 +82,12 @@ pub enum Command {
         recipe: Recipe,
         engine: Engine,
     },
+    /// Whether the tables of a fabric may be changed under traffic from an old plan to a new one.
+    Transit {
+        fabric: usize,
+        old: usize,
+        new: usize,
+    },
     /// What each single failure of cables or switches costs a plan that is repaired after it on so many lanes, 1 to 15.
     Sweep {
         what: Failing,

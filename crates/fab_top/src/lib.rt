@@ -1,6 +1,7 @@
 //! The program as one call: words and files in, texts and a status out.
 #![tactic(auto)]
 
+mod change_texts;
 mod command;
 mod commands;
 mod engine_words;

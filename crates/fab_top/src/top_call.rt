@@ -9,7 +9,7 @@ ghost use Rattle.fab_top.specs.Ran.{Ran};
 ghost use Rattle.fab_top.specs.Usage.{usage_text};
 
 use crate::command::Command;
-use crate::commands::{certify, check, convert, cut, generate, load, repair, show, sweep};
+use crate::commands::{certify, check, convert, cut, generate, load, repair, show, sweep, transit};
 use crate::fault_texts::unread_text;
 use crate::outcome::{Outcome, Stop};
 use crate::outputs::{put_answer, put_outcome};
@@ -77,6 +77,7 @@ fn obey<F: Shelf>(
         Command::Load { fabric, plan } => load(alloc, words, shelf, fabric, plan),
         Command::Gen { recipe } => generate(alloc, recipe),
         Command::Demo { recipe, engine } => demo(alloc, recipe, engine),
+        Command::Transit { fabric, old, new } => transit(alloc, words, shelf, fabric, old, new),
         Command::Sweep {
             what,
             fabric,

@@ -2,7 +2,7 @@
 //! length of the words gives.
 ghost use Rattle.std.specs.Prelude.{◌≡◌, ◌≤◌, IfSome, IfOk, option_map};
 ghost use Rattle.std.specs.Bool.{then_some};
-ghost use Rattle.fab_top.specs.Words.{texts, command_of, is_file, are_two_files, has_leading_zero, number_in, named, kinds, lid_in, lanes_in, flagged_lanes, are_three_files, repair_words, show_from_to, show_words, recipe_in, gen_words, failings, sweep_words};
+ghost use Rattle.fab_top.specs.Words.{texts, command_of, is_file, are_two_files, has_leading_zero, number_in, named, kinds, lid_in, lanes_in, flagged_lanes, are_three_files, repair_words, transit_words, show_from_to, show_words, recipe_in, gen_words, failings, sweep_words};
 ghost use Rattle.fab_top.specs.ReadWords.{or_unknown, wants_memory};
 ghost use Rattle.fab_text.specs.Fields.{hex};
 ghost use Rattle.fab_text.specs.Readings.{Gives};
@@ -197,6 +197,23 @@ fn gen_words(others: &[String]) -> Option<Command>
     }
 }
 
+fn transit_words(others: &[String]) -> Option<Command>
+    ensures { result ≡ transit_words (texts others.now) }
+{
+    match others {
+        [fabric, old, new] => are_three_files(
+            fabric.as_str(),
+            old.as_str(),
+            new.as_str(),
+        ).then_some(Command::Transit {
+            fabric: 1,
+            old: 2,
+            new: 3,
+        }),
+        _ => None,
+    }
+}
+
 fn failing_in(word: &str) -> Option<Failing>
     ensures { result ≡ named failings word.now }
 {
@@ -249,6 +266,7 @@ fn command_of(alloc: Global, words: &[String]) -> Result<Option<Command>, AllocE
         "load" => Ok(on_two_files(others, Command::Load { fabric: 1, plan: 2 })),
         "gen" => Ok(gen_words(others)),
         "demo" => Ok(demo_words(alloc, others)),
+        "transit" => Ok(transit_words(others)),
         "sweep" => Ok(sweep_words(others)),
         _ => Ok(None),
     }

@@ -65,6 +65,15 @@ demo-requires-clause-fits g c = (is_spelled c.args.words.now _ _ c.requires c.in
 pub demo-requires-clause-lanes : goal.demo-requires-clause-lanes
 demo-requires-clause-lanes g c = (is_spelled c.args.words.now _ _ c.requires c.in-Demo.is).asks.lanes
 
+pub transit-requires-clause-fabric : goal.transit-requires-clause-fabric
+transit-requires-clause-fabric g c = (is_spelled c.args.words.now _ _ c.requires c.in-Transit.is).places.0
+
+pub transit-requires-clause-old : goal.transit-requires-clause-old
+transit-requires-clause-old g c = (is_spelled c.args.words.now _ _ c.requires c.in-Transit.is).places.1.0
+
+pub transit-requires-clause-new : goal.transit-requires-clause-new
+transit-requires-clause-new g c = (is_spelled c.args.words.now _ _ c.requires c.in-Transit.is).places.1.1.0
+
 pub sweep-requires-clause-fabric : goal.sweep-requires-clause-fabric
 sweep-requires-clause-fabric g c = (is_spelled c.args.words.now _ _ c.requires c.in-Sweep.is).places.0
 

@@ -1,0 +1,20 @@
+mod Examples
+pub mod SafeLaws
+pub mod MixedRings
+pub mod OneMixed
+pub mod MixedExists
+pub mod Bounded
+pub mod Safety
+pub mod WalkSteps
+pub mod Looking
+pub mod Seeing
+pub mod FoundFaults
+pub mod Numbering
+pub mod Marking
+pub mod MissingLevels
+pub mod Beginning
+pub mod Parts
+pub mod Bounds
+pub mod Hopping
+pub mod GoingOn
+pub mod EachLid

@@ -1,0 +1,9 @@
+pub mod MixedWalks
+pub mod Answers
+pub mod Safe
+pub mod Laws
+pub mod Changing
+pub mod Faults
+pub mod Finding
+pub mod Walking
+pub mod Levels
