@@ -13,12 +13,7 @@ use fab_model::ChannelId;
 use fab_tables::{Lanes, VirtualChannel};
 
 /// Gives each virtual channel that is used its level as number, and 0 to every other.
-pub fn set_numbers(
-    lanes: &mut Lanes,
-    channels: u32,
-    dependencies: &Dependencies,
-    levels: &[u32],
-)
+pub fn set_numbers(lanes: &mut Lanes, channels: u32, dependencies: &Dependencies, levels: &[u32])
     requires whole { AreLaneTables lanes.old }
     requires channels { channels ≡ lanes.old.channels }
     requires used { length dependencies.now.used ≡ channels * lanes.old.count }
