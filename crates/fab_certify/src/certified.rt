@@ -81,8 +81,9 @@ pub fn certify(alloc: Global, fabric: &Fabric, plan: &Plan) -> Result<Certified,
     )
 }
 
-/// The lanes with which a plan is read.
-fn lanes_read(
+/// The lanes with which a plan is read: its own, or where it has none one lane, with level 0 for each source and each
+/// LID connected to it. An error comes only for want of memory.
+pub fn lanes_read(
     alloc: Global,
     fabric: &Fabric,
     lanes: Option<Lanes>,
