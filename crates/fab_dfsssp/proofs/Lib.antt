@@ -14,6 +14,7 @@ pub mod RoutesOnce
 pub mod LaneCounts
 pub mod CountedLanes
 pub mod PathsCounted
+pub mod FirstChannels
 pub mod PathsOver
 pub mod Counting
 pub mod Around

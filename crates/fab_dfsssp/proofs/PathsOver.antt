@@ -29,6 +29,7 @@ use Rattle.fab_dfsssp.specs.declared.paths_over.Path.{Path}
 use Rattle.fab_dfsssp.specs.Assignments.{contains_edge}
 use Rattle.fab_dfsssp.specs.PathsOver.{IsPathOf, HasPath, ArePathsOver, StandsAt, AreLayer, BeginsToward, AddsBehind}
 use Rattle.fab_dfsssp.proofs.PathCounts.{no_channels_apart}
+use Rattle.fab_dfsssp.proofs.FirstChannels.{told_by_row, begins_by_port}
 use Rattle.fab_dfsssp.proofs.RingEdges.{contains-follow, follow-contains}
 use Rattle.fab_dfsssp.proofs.RoutesOnce.{StandsOnce, delivered_once}
 
@@ -345,3 +346,30 @@ module _ (t : Topology) (e : Entries) (good : IsWellFormed t) (path : Path) (old
           let between : (first_channel t path.from.0 ≤ back.0) × (back.0 < first_channel t (path.from.0 + 1)) = stands_between t good path.from.0 back.0 (reversed r) back.1 tail in
           let P : Option ChannelRow → Type 0 = λ o. IfSome o (λ x. slice_get t.channels c ≡ Some (reversed x)) in
           so_far.there s c back.0 begins.1 (subst P (sym at) leaves.1) between.0 (omega (arith, between.1, all))
+
+-- ---- a channel whose reverse stands at the entry of its tip
+
+module _ (t : Topology) (e : Entries) (good : IsWellFormed t) (path : Path) (old : List Path) (l : ℕ) (now : List Path) (so_far : AddsBehindUpTo t e path old l now) (low : l < length t.channels)
+    (from : first_channel t path.from.0 ≤ l) (past : l < first_channel t (path.from.0 + 1)) (row : ChannelRow) (is : slice_get t.channels l ≡ Some row) where
+  abbrev before : Path
+  before = record { from = row.tip; lid = path.lid }
+
+  back : Contains t.channels (reversed row)
+  back = reverse_there t good row (contains_read t.channels l row is)
+
+  reverse_is : slice_get t.channels back.0 ≡ Some (reversed row)
+  reverse_is = slice_get-get_or t.channels back.0 (reversed row) back.1 ∙ ap (λ x. Some x) back.2
+
+  is_reverse : IsReverse t l back.0
+  is_reverse = let P : Option ChannelRow → Type 0 = λ o. IfSome o (λ x. slice_get t.channels back.0 ≡ Some (reversed x)) in subst P (sym is) reverse_is
+
+  tip_is : option_map (λ (r : ChannelRow). r.tip) (slice_get t.channels l) ≡ Some before.from
+  tip_is = ap (λ o. option_map (λ (r : ChannelRow). r.tip) o) is
+
+  pub entry_skips : (entry e row.tip.0 path.lid.0 ≡ row.tip_port → ⊥) → AddsBehindUpTo t e path old (l + 1) now
+  entry_skips off =
+      behind_skips t e good path old l now so_far low from past before refl tip_is back.0 is_reverse
+      (λ at. off (sym (told_by_row t e row.tip.0 path.lid.0 back.0 (reversed row) reverse_is at).1))
+
+  pub entry_pushes : entry e row.tip.0 path.lid.0 ≡ row.tip_port → AddsBehindUpTo t e path old (l + 1) (now ++ before ∷ [])
+  entry_pushes same = behind_pushes t e good path old l now so_far low from past before refl tip_is back.0 is_reverse (begins_by_port t good back.0 (reversed row) reverse_is e path.lid.0 same)

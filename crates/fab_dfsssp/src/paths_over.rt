@@ -1,14 +1,15 @@
 //! The paths over an edge: those whose route contains its two channels, one directly after the other.
 //!
 //! They are found against the entries. First come the paths that begin with the edge, one for each LID at most; then,
-//! layer after layer, the paths whose first channel leads to the switch of one in the layer before. A channel stands at
-//! one place of a route, so the layers end. It takes a look at each LID, and at each channel that leads to the switch of a
+//! layer after layer, the paths whose first channel leads to the switch of one in the layer before. The first channel of
+//! a path is that at the port of the switch's entry, so no more than the entry is looked at. A channel stands at one
+//! place of a route, so the layers end. It takes a look at each LID, and at each channel that leads to the switch of a
 //! path that is found; memory: some 16 bytes for each of these paths.
-ghost use Rattle.std.specs.Prelude.{◌≡◌, ℕ, suc, ◌<◌, ◌↔◌, length, Contains, IfOk, IsTrue, OnOk, slice_get};
+ghost use Rattle.std.specs.Prelude.{◌≡◌, ℕ, suc, ◌<◌, ◌↔◌, length, Contains, IfOk, IsTrue, OnOk};
 ghost use Rattle.fab_model.specs.WellFormed.{IsFabric};
+ghost use Rattle.fab_tables.specs.Entries.{entry};
 ghost use Rattle.fab_tables.specs.Fit.{EntriesFit};
 ghost use Rattle.fab_tables.specs.Reaching.{IsToward};
-ghost use Rattle.fab_tables.specs.Route as routes;
 ghost use Rattle.fab_sssp.specs.LeastWeightTables.{AreLeastWeightTables};
 ghost use Rattle.fab_dfsssp.specs.declared.paths_over.Path.{Path as AnyPath};
 ghost use Rattle.fab_dfsssp.specs.PathsOver.{IsPathOf, StandsAt, ArePathsOver, AreLayer, AddsBehind};
@@ -58,11 +59,14 @@ fn paths_from(
     requires edge { edge.0 < length fabric.now.channels }
     ensures { IfOk result (λ paths. AreLayer fabric.now tables.now edge 0 paths.items) }
 {
-    let from = fabric.channel(ChannelId(edge.0)).tail;
+    let first = fabric.channel(ChannelId(edge.0));
     let mut paths = Vec::new(alloc);
     for lid in fabric.lids_in_use() {
-        let path = Path { from, lid: *lid };
-        if begins_with(fabric, tables, path, edge) {
+        let path = Path {
+            from: first.tail,
+            lid: *lid,
+        };
+        if sends_by(tables, path, first.port) && begins_with(fabric, tables, path, edge) {
             paths.push(path)?;
         }
     }
@@ -111,23 +115,23 @@ fn push_behind(
 {
     let (first, past) = fabric.leaves(path.from);
     for leaving in first..past {
+        let row = fabric.channel(ChannelId(leaving));
         let before = Path {
-            from: fabric.tip(ChannelId(leaving)),
+            from: row.tip,
             lid: path.lid,
         };
-        let channel = fabric.reverse(ChannelId(leaving));
-        if begins_along(fabric, tables, before, channel) {
+        // the same cable leads back by the port at its other end
+        if sends_by(tables, before, row.tip_port) {
             behind.push(before)?;
         }
     }
     Ok(())
 }
 
-/// Whether a channel is the first of a path.
-fn begins_along(fabric: &Fabric, tables: &Tables, path: Path, channel: ChannelId) -> bool
-    requires toward { IsToward fabric.now tables.now path.lid.0 }
-    requires switch { path.from.0 < length fabric.now.switches }
-    ensures { IsTrue result ↔ (slice_get (routes.route fabric.now tables.now path.from.0 path.lid.0).channels 0 ≡ Some channel.0) }
+/// Whether the entry at the switch of a path is this port: then the path begins with the channel that leaves by it.
+fn sends_by(tables: &Tables, path: Path, port: u8) -> bool
+    requires { path.from.0 < tables.now.switches }
+    ensures { IsTrue result ↔ (entry tables.now path.from.0 path.lid.0 ≡ port) }
 {
-    follow(fabric, tables, path.from, path.lid).next() == Some(channel)
+    tables.get(path.from, path.lid) == port
 }
