@@ -8,6 +8,8 @@ mod engine_words;
 mod engines;
 mod fault_texts;
 mod files;
+#[cfg(test)]
+mod forged_tests;
 mod guid_list;
 mod laned;
 mod laws;

@@ -1,5 +1,5 @@
 //! A table of runs on a ring of five, with each call to the outside failing in turn: each fetch, each put to the output,
-//! and the one to the error output.
+//! and the one to the error output; and with calls named to fail that never come.
 
 use crate::run;
 use fab_io::{MemoryShelf, MemorySink};
@@ -12,13 +12,13 @@ struct Row {
     files: &'static [&'static str],
 }
 
-const ROWS: [Row; 9] = [
+const ROWS: [Row; 11] = [
     Row {
         words: &["check", "RING", "PLAN"],
         files: &["RING", "PLAN"],
     },
     Row {
-        words: &["route", "nue", "RING", "--lanes", "1"],
+        words: &["route", "nue", "RING", "--lanes", "2"],
         files: &["RING"],
     },
     Row {
@@ -26,15 +26,15 @@ const ROWS: [Row; 9] = [
         files: &["RING", "PLAN"],
     },
     Row {
-        words: &["repair", "RING", "PLAN", "FAILED", "--lanes", "1"],
-        files: &["RING", "PLAN", "FAILED"],
+        words: &["repair", "RING", "PLAN", "NONE", "--lanes", "2"],
+        files: &["RING", "PLAN", "NONE"],
     },
     Row {
-        words: &["cut", "RING", "FAILED"],
-        files: &["RING", "FAILED"],
+        words: &["cut", "RING", "NONE"],
+        files: &["RING", "NONE"],
     },
     Row {
-        words: &["show", "RING", "PLAN", "6", "8"],
+        words: &["show", "RING", "PLAN", "5", "8"],
         files: &["RING", "PLAN"],
     },
     Row {
@@ -46,8 +46,16 @@ const ROWS: [Row; 9] = [
         files: &["RING", "PLAN"],
     },
     Row {
-        words: &["demo", "ring", "5", "1", "0", "nue", "1"],
+        words: &["demo", "ring", "5", "1", "0", "lash", "2"],
         files: &[],
+    },
+    Row {
+        words: &["sweep", "cables", "RING", "PLAN", "--lanes", "2"],
+        files: &["RING", "PLAN"],
+    },
+    Row {
+        words: &["transit", "RING", "PLAN", "AGAIN"],
+        files: &["RING", "PLAN", "AGAIN"],
     },
 ];
 
@@ -59,8 +67,7 @@ enum Failing {
     /// A fetch, and the put of the line that tells it, after two bytes.
     FetchAndLine(u32),
     Output(u32, usize),
-    /// The first put to the error output.
-    Error(usize),
+    Error(u32, usize),
 }
 
 /// What a run leaves.
@@ -77,7 +84,7 @@ fn is_same(one: &Left, other: &Left) -> bool {
         && one.err.bytes() == other.err.bytes()
 }
 
-/// A ring of five and its plan by Nue on one lane, as texts.
+/// A ring of five and its plan by LASH on two lanes, as texts.
 #[derive(Drop)]
 struct Texts {
     ring: MemorySink,
@@ -93,7 +100,7 @@ fn texts_of_ring(alloc: Global) -> Result<Texts, Fail> {
         Failing::Nothing,
     )?;
     shelf.add("RING", ring.out.bytes())?;
-    let words = &["route", "nue", "RING", "--lanes", "1"];
+    let words = &["route", "lash", "RING", "--lanes", "2"];
     let plan = run_with(alloc, &mut shelf, words, Failing::Nothing)?;
     Ok(Texts {
         ring: ring.out,
@@ -105,7 +112,8 @@ fn shelf_of(alloc: Global, texts: &Texts) -> Result<MemoryShelf, Fail> {
     let mut shelf = MemoryShelf::new(alloc);
     shelf.add("RING", texts.ring.bytes())?;
     shelf.add("PLAN", texts.plan.bytes())?;
-    shelf.add("FAILED", b"0x10000 1\n")?;
+    shelf.add("AGAIN", texts.plan.bytes())?;
+    shelf.add("NONE", b"")?;
     Ok(shelf)
 }
 
@@ -129,7 +137,7 @@ fn run_with(
             err.fail(1, 2)?;
         }
         Failing::Output(call, kept) => out.fail(call, kept)?,
-        Failing::Error(kept) => err.fail(1, kept)?,
+        Failing::Error(call, kept) => err.fail(call, kept)?,
     }
     let status = run(alloc, &words, shelf, &mut out, &mut err);
     Ok(Left { status, out, err })
@@ -143,6 +151,13 @@ fn left_on_ring(
 ) -> Result<Left, Fail> {
     let mut shelf = shelf_of(alloc, texts)?;
     run_with(alloc, &mut shelf, line, failing)
+}
+
+/// The line on a file that cannot be read.
+fn unread_line(alloc: Global, name: &str) -> Result<String, Fail> {
+    let mut line = String::from_str(alloc, name)?;
+    line.push_str(": cannot be read\n")?;
+    Ok(line)
 }
 
 #[test]
@@ -159,14 +174,15 @@ fn each_fetch_fails(rt: HostRuntime) -> Result<(), Fail> {
                 assert!(rt; is_same(&unread, &whole));
                 continue;
             };
+            let line = unread_line(alloc, name)?;
             assert_eq!(rt; unread.status, 4);
             assert!(rt; unread.out.bytes().is_empty());
-            assert!(rt; unread.err.bytes().starts_with(name.as_bytes()));
-            assert!(rt; unread.err.bytes().ends_with(b": cannot be read\n"));
+            assert_eq!(rt; unread.err.bytes(), line.as_bytes());
             let untold = left_on_ring(alloc, &texts, row.words, Failing::FetchAndLine(call))?;
             assert_eq!(rt; untold.status, 4);
             assert!(rt; untold.out.bytes().is_empty());
             assert_eq!(rt; untold.err.bytes().len(), 2);
+            assert!(rt; line.as_bytes().starts_with(untold.err.bytes()));
         }
     }
     Ok(())
@@ -193,6 +209,9 @@ fn each_put_fails(rt: HostRuntime) -> Result<(), Fail> {
             }
             assert!(rt; passed);
         }
+        // No run puts so often to the error output.
+        let uncut = left_on_ring(alloc, &texts, row.words, Failing::Error(9, 0))?;
+        assert!(rt; is_same(&uncut, &whole));
     }
     Ok(())
 }
@@ -201,9 +220,9 @@ fn each_put_fails(rt: HostRuntime) -> Result<(), Fail> {
 fn the_kept_line_fails(rt: HostRuntime) -> Result<(), Fail> {
     let alloc = rt.alloc();
     let texts = texts_of_ring(alloc)?;
-    let words = &["repair", "RING", "PLAN", "FAILED", "--lanes", "1"];
+    let words = &["repair", "RING", "PLAN", "NONE", "--lanes", "2"];
     let whole = left_on_ring(alloc, &texts, words, Failing::Nothing)?;
-    let cut = left_on_ring(alloc, &texts, words, Failing::Error(4))?;
+    let cut = left_on_ring(alloc, &texts, words, Failing::Error(1, 4))?;
     assert_eq!(rt; cut.status, 5);
     assert_eq!(rt; cut.out.bytes(), whole.out.bytes());
     assert_eq!(rt; cut.err.bytes(), b"kept".as_slice());
