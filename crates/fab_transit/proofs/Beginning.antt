@@ -7,7 +7,7 @@ use Rattle.std.proofs.lemmas.Option.{same_Some, none-some, slice_get-get_or}
 use Rattle.fab_model.specs.Topology.{Topology}
 use Rattle.fab_model.specs.Connected.{IsConnectedTo}
 use Rattle.fab_tables.specs.declared.starts.Start.{Start}
-use Rattle.fab_tables.specs.Starts.{start_of, IsOfTerminal, AreStarts}
+use Rattle.fab_tables.specs.Starts.{start_of, IsOfTerminal}
 use Rattle.fab_tables.specs.Reading.{level_read}
 use Rattle.fab_tables.specs.Dependencies.{node_of}
 use Rattle.fab_transit.specs.declared.mixed.Side.{Side}
@@ -16,6 +16,8 @@ use Rattle.fab_transit.specs.declared.walks.Walks.{Walks}
 use Rattle.fab_transit.specs.MixedWalks.{Change, plan_of, ComesTo, standing_after}
 use Rattle.fab_transit.specs.Changing.{standing_of}
 use Rattle.fab_transit.specs.Finding.{Findings}
+use Rattle.fab_transit.specs.Standing.{AreStanding, StandsIn}
+use Rattle.fab_transit.proofs.Alike.{begins_alike, same_switch}
 use Rattle.fab_transit.specs.Walking.{Takes, IsWrong, Advances, LooksAt, IsTakenOn, AreFromWalks, AreFoundFor, IsSeen, BeginsFrom, AreBegun}
 use Rattle.fab_transit.proofs.Seeing.{from_still, found_still, is_seen, seen_still}
 use Rattle.fab_transit.specs.MixedWalks.{bound}
@@ -47,10 +49,15 @@ module _ (t : Topology) (m : Change) (lid : ℕ) where
           subst (λ (y : Start). IsConnectedTo t y.switch.0 lid → BeginsFrom t m lid y side g x) one (λ c. here c side) connected)
     ]
 
-  pub all_begun : (starts : List Start) → AreStarts t starts → (index : ℕ) → length starts ≤ index → (f : Findings) (w : Walks) → AreBegunUpTo t m lid starts index f w → AreBegun t m lid f w
+  pub all_begun : (starts : List Start) → AreStanding t m starts → (index : ℕ) → length starts ≤ index → (f : Findings) (w : Walks) → AreBegunUpTo t m lid starts index f w → AreBegun t m lid f w
   all_begun starts are index past f w begun p side path =
-      let has : Contains starts (start_of p) = All-contains (λ row. Contains starts (start_of row)) t.terminals p are.all path.terminal in
-      begun has.0 (start_of p) (omega (arith, past, has.1)) (slice_get-get_or starts has.0 (start_of p) has.1 ∙ ap (λ (s : Start). Some s) has.2) path.connected side
+      let stands : (start : Start) × Contains starts start × StandsIn m start p = All-contains (λ row. (start : Start) × Contains starts start × StandsIn m start row) t.terminals p are.all path.terminal in
+      let start : Start = stands.0 in
+      let has : Contains starts start = stands.1 in
+      begins_alike t m lid start p side f w stands.2 (
+      begun has.0 start (omega (arith, past, has.1)) (slice_get-get_or starts has.0 start has.1 ∙ ap (λ (s : Start). Some s) has.2)
+      (subst (λ x. IsConnectedTo t x lid) (sym (same_switch m start p stands.2)) path.connected) side
+      )
 
 -- where a plan gives no level there is nothing to begin
 pub begins_nowhere : (t : Topology) (m : Change) (lid : ℕ) (start : Start) (side : Side) (f : Findings) (w : Walks) → level_read (plan_of m side).lanes start.switch.0 lid ≡ None → BeginsFrom t m lid start side f w

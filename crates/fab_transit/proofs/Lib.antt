@@ -12,6 +12,7 @@ pub mod FoundFaults
 pub mod Numbering
 pub mod Marking
 pub mod MissingLevels
+pub mod Alike
 pub mod Beginning
 pub mod Parts
 pub mod Bounds

@@ -1,9 +1,9 @@
 -- Virtual channels and levels are marked as they are found.
-use Rattle.std.proofs.Common.{◌≡◌, ℕ, ◌*◌, ◌/◌, ◌%◌, ◌^◌, ◌<◌, ◌≤◌, Bool, true, false, not, cond, List, [], ◌∷◌, ◌++◌, length, replicate, refl, sym, ◌∙◌, ap, inl, inr, zero, suc, arith, Contains, Some, get_or-set_other}
-use Rattle.std.specs.Prelude.{slice_get, slice_index_or, slice_set}
-use Rattle.std.proofs.lemmas.Bool.{cases_eq, false≢true}
-use Rattle.std.proofs.lemmas.List.{length-set, length_push, length-replicate, get_or_append_left}
-use Rattle.std.proofs.lemmas.List.Elements.{Contains-append_left, Contains-append_right, Contains-append_cases}
+use Rattle.std.proofs.Common.{◌≡◌, ℕ, ◌+◌, ◌*◌, ◌/◌, ◌%◌, ◌^◌, ◌<◌, ◌≤◌, Bool, true, false, not, cond, List, [], ◌∷◌, ◌++◌, length, replicate, refl, subst, sym, ◌∙◌, ap, inl, inr, zero, suc, arith, Contains, Some, get_or-set_other}
+use Rattle.std.specs.Prelude.{slice_get, slice_index_or, slice_set, ◌==◌, All, Option, SomeIff}
+use Rattle.std.proofs.lemmas.Bool.{cases_eq, false≢true, ne_eqb, eq-eqb}
+use Rattle.std.proofs.lemmas.List.{length-set, length_push, length-replicate, length-map, map-set, get_or-map, get_or-replicate, ext_get_or, get_or_append_left}
+use Rattle.std.proofs.lemmas.List.Elements.{All-replicate, Contains-append_left, Contains-append_right, Contains-append_cases}
 use Rattle.std.proofs.lemmas.List.Folds.{sum_by-replicate}
 use Rattle.std.proofs.lemmas.List.Sums.{sum_by-set}
 use Rattle.std.proofs.lemmas.Nat.{div-mul-add, mod-mul-add, mul-add-lt}
@@ -15,6 +15,7 @@ use Rattle.fab_certify.proofs.Engines.Mapping.{all_alike}
 use Rattle.fab_certify.proofs.Numbered.NumberedPlan.{one_node}
 use Rattle.fab_transit.specs.declared.found.Taken.{Taken}
 use Rattle.fab_transit.specs.Finding.{Findings, IsTakenIn, mark_of, AreFindings, FindsOneMore}
+use Rattle.fab_transit.specs.Marks.{standing_marks}
 
 only_one : {A : Type 0} (x y : A) → Contains (x ∷ []) y → y ≡ x
 only_one x y (zero, low, is) = sym is
@@ -37,6 +38,46 @@ none_found channels bound small = record {
   marked = λ x low is. absurd (false≢true (sym (all_alike (channels * bound * 16) (mark_of bound x) false) ∙ is));
   counted = omega (arith, sum_by-replicate (λ b. cond {A = ℕ} (not b) 1 0) (channels * bound * 16) false, length-replicate (channels * bound * 16) false);
 }
+
+-- where all marks are below the stamp, none stands
+fallen : (stamp : ℕ) (marks : List ℕ) → All (λ mark. mark < stamp) marks → standing_marks stamp marks ≡ replicate (length marks) false
+fallen stamp marks low = ext_get_or false (standing_marks stamp marks) (replicate (length marks) false) (length-map marks (λ mark. mark == stamp) ∙ sym (length-replicate (length marks) false)) each
+  where
+    each : (k : ℕ) → k < length (standing_marks stamp marks) → slice_index_or (standing_marks stamp marks) k false ≡ slice_index_or (replicate (length marks) false) k false
+    each k within =
+        let there : k < length marks = omega (arith, within, length-map marks (λ mark. mark == stamp)) in
+        get_or-map (λ mark. mark == stamp) marks k 0 false there ∙ ne_eqb (slice_index_or marks k 0) stamp (λ same. omega (arith, same, low k 0 there)) ∙ sym (get_or-replicate (length marks) k false false there)
+
+-- and nothing is found
+pub none_stands : (channels bound stamp : ℕ) (marks : List ℕ) (taken : List Taken) → length marks ≡ channels * bound * 16 → channels * bound < 2 ^ 28 → All (λ mark. mark < stamp) marks → taken ≡ [] →
+    AreFindings channels bound (standing_marks stamp marks) taken × All (λ mark. mark ≤ stamp) marks
+none_stands channels bound stamp marks taken room small low none = (
+  subst (λ xs. AreFindings channels bound (standing_marks stamp marks) xs) (sym none)
+      (subst (λ bs. AreFindings channels bound bs []) (sym (fallen stamp marks low ∙ ap (λ n. replicate n false) room)) (none_found channels bound small)),
+  λ k d within. omega (arith, low k d within),
+)
+
+-- so where the stamp is the next
+pub next_stamp : (channels bound stamp : ℕ) (marks : List ℕ) (taken none : List Taken) → AreFindings channels bound (standing_marks stamp marks) taken × All (λ mark. mark ≤ stamp) marks →
+    (result : Option ℕ) (next : ℕ) → SomeIff result (stamp + 1 < 2 ^ 16) (stamp + 1) → result ≡ Some next → none ≡ [] → AreFindings channels bound (standing_marks next marks) none × All (λ mark. mark ≤ next) marks
+next_stamp channels bound stamp marks taken none are result next some is =
+    let above : next ≡ stamp + 1 = (subst (λ r. SomeIff r (stamp + 1 < 2 ^ 16) (stamp + 1)) is some).1 in
+    none_stands channels bound next marks none (sym (length-map marks (λ mark. mark == stamp)) ∙ are.0.room) are.0.small (λ k d within. omega (arith, above, are.1 k d within))
+
+-- and where all marks are written anew
+pub first_stamp : (channels bound : ℕ) (marks : List ℕ) (taken : List Taken) → marks ≡ replicate (channels * bound * 16) 0 → channels * bound < 2 ^ 28 → taken ≡ [] →
+    AreFindings channels bound (standing_marks 1 marks) taken × All (λ mark. mark ≤ 1) marks
+first_stamp channels bound marks taken is small =
+    none_stands channels bound 1 marks taken (ap (λ (xs : List ℕ). length xs) is ∙ length-replicate (channels * bound * 16) 0) small
+    (subst (λ xs. All (λ mark. mark < 1) xs) (sym is) (All-replicate (λ mark. mark < 1) (channels * bound * 16) 0 (omega arith)))
+
+-- what is read of a mark says whether it stands
+pub stands_as : (stamp : ℕ) (marks : List ℕ) (k mark : ℕ) (stands : Bool) → k < length marks → mark ≡ slice_index_or marks k 0 → (mark == stamp) ≡ stands → slice_index_or (standing_marks stamp marks) k false ≡ stands
+stands_as stamp marks k mark stands within read is = get_or-map (λ x. x == stamp) marks k 0 false within ∙ ap (λ x. x == stamp) (sym read) ∙ is
+
+-- a mark that is stamped stands
+pub stands_more : (stamp : ℕ) (marks : List ℕ) (k : ℕ) → standing_marks stamp (slice_set marks k stamp) ≡ slice_set (standing_marks stamp marks) k true
+stands_more stamp marks k = map-set (λ mark. mark == stamp) marks k stamp ∙ ap (λ b. slice_set (standing_marks stamp marks) k b) (eq-eqb stamp stamp refl)
 
 module _ (channels bound : ℕ) (marks : List Bool) (taken : List Taken) (are : AreFindings channels bound marks taken) where
   pub few : length taken ≤ channels * bound * 16

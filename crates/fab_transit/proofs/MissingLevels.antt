@@ -11,7 +11,7 @@ use Rattle.fab_model.specs.declared.rows.TerminalRow.{TerminalRow}
 use Rattle.fab_model.specs.Topology.{Topology, lids_of, place_of}
 use Rattle.fab_model.specs.Connected.{IsConnectedTo}
 use Rattle.fab_tables.specs.declared.starts.Start.{Start}
-use Rattle.fab_tables.specs.Starts.{start_of, StartsNotAfter, IsOfTerminal, AreStarts}
+use Rattle.fab_tables.specs.Starts.{StartsNotAfter, IsOfTerminal}
 use Rattle.fab_tables.specs.Fit.{IsSource}
 use Rattle.fab_tables.specs.First.{IsBefore, IsFirst}
 use Rattle.fab_tables.proofs.Joined.Lids.{connected_in_use, lesser_first}
@@ -24,17 +24,19 @@ use Rattle.fab_transit.specs.MixedWalks.{Change}
 use Rattle.fab_transit.specs.Answers.{LacksLevel, IsFaultAt, side_number}
 use Rattle.fab_transit.specs.Levels.{HasAllLevels, HasLevelsFor, HasLevelsAt, IsFirstAt, IsFirstFor}
 use Rattle.fab_transit.specs.Changing.{Changing, IsChanging}
+use Rattle.fab_transit.specs.Standing.{StandsIn, AreStanding}
+use Rattle.fab_transit.proofs.Alike.{same_switch}
 
 -- a start at the switch of each source
-start_of_source : (t : Topology) (starts : List Start) → AreStarts t starts → (s : ℕ) → IsSource t s → (k : ℕ) × (start : Start) × (slice_get starts k ≡ Some start) × (start.switch.0 ≡ s)
-start_of_source t starts are s source =
+start_of_source : (t : Topology) (m : Change) (starts : List Start) → AreStanding t m starts → (s : ℕ) → IsSource t s → (k : ℕ) × (start : Start) × (slice_get starts k ≡ Some start) × (start.switch.0 ≡ s)
+start_of_source t m starts are s source =
     let q : (p : TerminalRow) × Contains t.terminals p × (p.switch.0 ≡ s) = terminal_of t.terminals s source in
-    let has : Contains starts (start_of q.0) = All-contains (λ row. Contains starts (start_of row)) t.terminals q.0 are.all q.1 in
-    (has.0, start_of q.0, slice_get-get_or starts has.0 (start_of q.0) has.1 ∙ ap (λ (x : Start). Some x) has.2, q.2)
+    let stands : (start : Start) × Contains starts start × StandsIn m start q.0 = All-contains (λ row. (start : Start) × Contains starts start × StandsIn m start row) t.terminals q.0 are.all q.1 in
+    (stands.1.0, stands.0, slice_get-get_or starts stands.1.0 stands.0 stands.1.1 ∙ ap (λ (x : Start). Some x) stands.1.2, same_switch m stands.0 q.0 stands.2 ∙ q.2)
 
 -- each start is at a source
-pub source_at : (t : Topology) (starts : List Start) (k : ℕ) → AreStarts t starts → k < length starts → IsSource t (start_at starts k).switch.0
-source_at t starts k are low =
+pub source_at : (t : Topology) (m : Change) (starts : List Start) (k : ℕ) → AreStanding t m starts → k < length starts → IsSource t (start_at starts k).switch.0
+source_at t m starts k are low =
     let of_terminal : IsOfTerminal t (start_at starts k) = are.terminals k (record { switch = record { 0 = 0 }; port = 0 }) low in
     subst (λ (x : Start). IsSource t x.switch.0) of_terminal.2 (source_of t.terminals of_terminal.0 of_terminal.1.0 of_terminal.1.1 of_terminal.1.2)
 
@@ -61,20 +63,20 @@ module _ (t : Topology) (m : Change) (lid : ℕ) (starts : List Start) where
         subst (λ (x : Start). IsConnectedTo t x.switch.0 lid → HasLevelsAt t m lid x.switch.0) one here connected)
   ]
 
-  pub all_levels : AreStarts t starts → (index : ℕ) → length starts ≤ index → HaveLevels t m lid starts index → HasLevelsFor t m lid
+  pub all_levels : AreStanding t m starts → (index : ℕ) → length starts ≤ index → HaveLevels t m lid starts index → HasLevelsFor t m lid
   all_levels are index past have source side lacks =
-      let x = start_of_source t starts are source lacks.of_source in
+      let x = start_of_source t m starts are source lacks.of_source in
       let levels : HasLevelsAt t m lid x.1.switch.0
       = have x.0 x.1 (omega (arith, past, slice_get_within starts x.0 x.1 x.2)) x.2 (subst (λ s. IsConnectedTo t s lid) (sym x.3) lacks.connected) in
       levels side (subst (λ s. LacksLevel t m lid s side) (sym x.3) lacks)
 
-pub first_for : (t : Topology) (m : Change) (lid : Lid) (starts : List Start) (are : AreStarts t starts) (index : ℕ) (start : Start) → slice_get starts index ≡ Some start → HaveLevels t m lid.0 starts index →
+pub first_for : (t : Topology) (m : Change) (lid : Lid) (starts : List Start) (are : AreStanding t m starts) (index : ℕ) (start : Start) → slice_get starts index ≡ Some start → HaveLevels t m lid.0 starts index →
     (fault : Mixed) → IsFirstAt t m lid start.switch fault → IsFirstFor t m lid fault
 first_for t m lid starts are index start at before fault first = record { source = start.switch; side = first.side; is = first.is; lacks = first.lacks; none_before = none }
   where
     none : (s : ℕ) (other : Side) → IsBefore (s ∷ side_number other ∷ []) (start.switch.0 ∷ side_number first.side ∷ []) → ¬ LacksLevel t m lid.0 s other
     none s other (inl less) lacks =
-        let x = start_of_source t starts are s lacks.of_source in
+        let x = start_of_source t m starts are s lacks.of_source in
         let low : x.0 < index = elim (cases_lt x.0 index) [
           | inl h ↦ h
           | inr past ↦
@@ -140,7 +142,7 @@ module _ (t : Topology) (m : Change) where
       none earlier (BadLane x s side) less f = later 1 (x.0 ∷ s.0 ∷ side_number side ∷ []) (subst (λ p. IsBefore p (0 ∷ lid.0 ∷ first.source.0 ∷ side_number first.side ∷ [])) f.0 less)
 
 -- what is found for a start, and for a LID, is the first
-pub missing_first : (t : Topology) (m : Change) (lid : Lid) (starts : List Start) → AreStarts t starts → (index : ℕ) (start : Start) → slice_get starts index ≡ Some start → HaveLevels t m lid.0 starts index →
+pub missing_first : (t : Topology) (m : Change) (lid : Lid) (starts : List Start) → AreStanding t m starts → (index : ℕ) (start : Start) → slice_get starts index ≡ Some start → HaveLevels t m lid.0 starts index →
     (found : Option Mixed) → is_some found ≡ true → MatchOption found (HasLevelsAt t m lid.0 start.switch.0) (IsFirstAt t m lid start.switch) → MatchOption found (HasLevelsFor t m lid.0) (IsFirstFor t m lid)
 missing_first t m lid starts are index start at before None some found = cc
 missing_first t m lid starts are index start at before (Some fault) some found = first_for t m lid starts are index start at before fault found

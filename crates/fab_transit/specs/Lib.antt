@@ -3,7 +3,9 @@ pub mod Answers
 pub mod Safe
 pub mod Laws
 pub mod Changing
+pub mod Standing
 pub mod Faults
 pub mod Finding
 pub mod Walking
 pub mod Levels
+pub mod Marks

@@ -7,8 +7,10 @@
 ghost use Rattle.std.specs.Prelude.{◌≡◌, IfOk};
 ghost use Rattle.fab_tables.specs.LaneTables.{LaneTables};
 ghost use Rattle.fab_tables.specs.Fit.{PlanFits};
+ghost use Rattle.fab_tables.specs.Starts.{AreStarts};
 ghost use Rattle.fab_transit.specs.Answers.{IsAnswerTo, HasNoFault};
 ghost use Rattle.fab_transit.specs.Walking.{AreDependencies};
+ghost use Rattle.fab_transit.specs.Standing.{AreStanding};
 ghost use Rattle.fab_transit.specs.Safe.{IsSafe};
 
 use crate::levels::first_missing_level;
@@ -18,14 +20,15 @@ use crate::walks::find_walks;
 use fab_certify::{Dependencies, set_numbers};
 use fab_model::Fabric;
 use fab_rings::{Numbering, levels_or_ring};
-use fab_tables::{Components, Lanes, Plan, starts_of};
+use fab_tables::{Components, Lanes, Plan, Start, starts_of};
 use std::alloc::{AllocError, Global};
 
 /// Looks at a change of the tables from an old plan to a new one while packets are under way.
 ///
-/// For each LID it takes a step for each terminal, and for each level and each virtual channel that packets of
-/// this level take; then linear time in the virtual channels and their dependencies. It takes memory for each
-/// virtual channel and level, and for each dependency. An error comes only for want of memory.
+/// For each LID it takes a step for each source, or each terminal where a plan has maps of pairs of ports, and for
+/// each level and each virtual channel that packets of this level take; then linear time in the virtual channels and
+/// their dependencies. It takes memory for each virtual channel and level, and for each dependency. An error comes
+/// only for want of memory.
 pub fn transit(alloc: Global, fabric: &Fabric, old: &Plan, new: &Plan) -> Result<Mixed, AllocError>
     requires old { PlanFits fabric.now old.now }
     requires new { PlanFits fabric.now new.now }
@@ -35,7 +38,8 @@ pub fn transit(alloc: Global, fabric: &Fabric, old: &Plan, new: &Plan) -> Result
 {
     let plans = Plans::new(fabric, old, new);
     let components = Components::of(alloc, fabric)?;
-    let starts = starts_of(alloc, fabric)?;
+    let mut starts = starts_of(alloc, fabric)?;
+    keep_standing(&plans, &mut starts);
     let missing = first_missing_level(&plans, &components, &starts);
     if let Some(fault) = missing {
         return Ok(fault);
@@ -44,6 +48,16 @@ pub fn transit(alloc: Global, fabric: &Fabric, old: &Plan, new: &Plan) -> Result
     match walks.fault {
         Some(fault) => Ok(fault.answer()),
         None => numbered(alloc, &plans, &walks.dependencies),
+    }
+}
+
+/// Without maps of pairs of ports all starts of a source are alike, and only the first is kept.
+fn keep_standing(plans: &Plans, starts: &mut Vec<Start>)
+    requires { AreStarts plans.now.fabric starts.old.items }
+    ensures { AreStanding plans.now.fabric plans.now.change starts.new.items }
+{
+    if !plans.have_pairs() {
+        starts.dedup_by_key(|start| start.switch);
     }
 }
 

@@ -1,8 +1,8 @@
 //! The virtual channels that packets to one LID take, as they are found, each once for each level.
 //!
-//! A mark for each virtual channel and level says that it is found. To find one takes constant time, on average;
-//! to take all away the time of 16 marks for each virtual channel. Memory: 16 bytes for each virtual channel, and
-//! what is found.
+//! A mark for each virtual channel and level says that it is found: it stands where it equals the stamp. To find one
+//! takes constant time, on average, and so does to take all away, as the next stamp is above all marks; only after
+//! the last stamp the marks are written anew. Memory: 32 bytes for each virtual channel, and what is found.
 ghost use Rattle.std.specs.Prelude.{◌≡◌, ◌*◌, ◌≤◌, [], length, slice_get, IfOk, OnOk};
 ghost use Rattle.fab_transit.specs.Finding.{AreRooms, IsTakenIn, FindsOneMore};
 
@@ -24,19 +24,23 @@ pub(crate) struct Taken {
 pub(crate) struct Found {
     channels: u32,
     bound: u8,
-    // 16 for each virtual channel
-    marks: Vec<bool>,
+    // 16 for each virtual channel, none above the stamp
+    marks: Vec<u16>,
+    stamp: u16,
     taken: Vec<Taken>,
 }
 
 impl Model for Found {
+    ghost use Rattle.std.specs.Prelude.{◌≤◌, All};
     ghost use Rattle.fab_transit.specs.Finding.{Findings, AreFindings};
+    ghost use Rattle.fab_transit.specs.Marks.{standing_marks};
 
     ghost Value = { Findings };
 
     ghost view = { λ f. record { channels = f.channels; bound = f.bound; taken = f.taken.items } };
 
-    ghost invariant = { λ f. AreFindings f.channels f.bound f.marks.items f.taken.items };
+    ghost invariant = { λ f. AreFindings f.channels f.bound (standing_marks f.stamp f.marks.items) f.taken.items
+        × All (λ mark. mark ≤ f.stamp) f.marks.items };
 }
 
 impl Found {
@@ -48,7 +52,8 @@ impl Found {
         Ok(Found {
             channels: plans.fabric().channels(),
             bound: plans.bound(),
-            marks: vec![in alloc; false; plans.virtual_channels() as usize * 16]?,
+            marks: vec![in alloc; 0; plans.virtual_channels() as usize * 16]?,
+            stamp: 1,
             taken: Vec::new(alloc),
         })
     }
@@ -57,7 +62,13 @@ impl Found {
     pub(crate) fn clear(&mut self)
         ensures { self.new ≡ record self.old { taken = [] } }
     {
-        self.marks.fill(false);
+        match self.stamp.checked_add(1) {
+            Some(stamp) => self.stamp = stamp,
+            None => {
+                self.marks.fill(0);
+                self.stamp = 1;
+            }
+        }
         self.taken.clear();
     }
 
@@ -75,9 +86,9 @@ impl Found {
         ensures { OnOk result (FindsOneMore self.old taken self.new) }
     {
         let place = node_of(self.bound, taken.hop) as usize * 16 + taken.level as usize;
-        if !self.marks[place] {
+        if self.marks[place] != self.stamp {
             self.taken.push(taken)?;
-            self.marks[place] = true;
+            self.marks[place] = self.stamp;
         }
         Ok(())
     }

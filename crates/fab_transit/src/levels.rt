@@ -6,9 +6,9 @@ ghost use Rattle.std.specs.Prelude.{◌≡◌, ◌<◌, length, MatchOption};
 ghost use Rattle.fab_model.specs.Connected.{IsConnectedTo};
 ghost use Rattle.fab_tables.specs.First.{IsFirst};
 ghost use Rattle.fab_tables.specs.Fit.{IsSource};
-ghost use Rattle.fab_tables.specs.Starts.{AreStarts};
 ghost use Rattle.fab_transit.specs.Answers.{IsFaultAt};
 ghost use Rattle.fab_transit.specs.Levels.{HasAllLevels, HasLevelsFor, HasLevelsAt, IsFirstFor, IsFirstAt};
+ghost use Rattle.fab_transit.specs.Standing.{AreStanding};
 
 use crate::mixed::{Mixed, Side};
 use crate::plans::Plans;
@@ -22,7 +22,7 @@ pub(crate) fn first_missing_level(
     starts: &[Start],
 ) -> Option<Mixed>
     requires components { components.now ≡ plans.now.fabric }
-    requires starts { AreStarts plans.now.fabric starts.now }
+    requires starts { AreStanding plans.now.fabric plans.now.change starts.now }
     ensures { MatchOption result (HasAllLevels plans.now.fabric plans.now.change) (IsFirst (IsFaultAt plans.now.fabric plans.now.change)) }
 {
     for lid in plans.fabric().lids_in_use() {
@@ -37,7 +37,7 @@ pub(crate) fn first_missing_level(
 /// The first missing level for a LID.
 fn missing_for(plans: &Plans, lid: Lid, components: &Components, starts: &[Start]) -> Option<Mixed>
     requires components { components.now ≡ plans.now.fabric }
-    requires starts { AreStarts plans.now.fabric starts.now }
+    requires starts { AreStanding plans.now.fabric plans.now.change starts.now }
     ensures { MatchOption result (HasLevelsFor plans.now.fabric plans.now.change lid.0) (IsFirstFor plans.now.fabric plans.now.change lid) }
 {
     let home = plans.fabric().place_of(lid)?.switch;

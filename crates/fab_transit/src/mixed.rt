@@ -7,7 +7,9 @@ use fab_tables::{End, Lanes};
 /// One of the two plans of a change.
 #[derive(Clone, Copy, PartialEq, Eq, Debug, Drop)]
 pub enum Side {
+    /// The plan whose tables are in force before the change.
     Old,
+    /// The plan whose tables are in force after it.
     New,
 }
 

@@ -3,7 +3,7 @@
 //!
 //! Each call takes constant time, and no memory; a lane takes the logarithm of the count of pairs of ports that
 //! have a map.
-ghost use Rattle.std.specs.Prelude.{◌≡◌, ◌*◌, ◌<◌, ◌≤◌, length, Contains, MatchResult};
+ghost use Rattle.std.specs.Prelude.{◌≡◌, ◌*◌, ◌<◌, ◌≤◌, [], false, length, Contains, MatchResult};
 ghost use Rattle.fab_model.specs.declared.rows.ChannelId.{ChannelId as Channel};
 ghost use Rattle.fab_model.specs.Topology.{lids_of};
 ghost use Rattle.fab_tables.specs.declared.end.End.{End as Ending};
@@ -12,6 +12,7 @@ ghost use Rattle.fab_tables.specs.Route.Hop.{Along, Stop};
 ghost use Rattle.fab_tables.specs.Reading.{count_read, level_read};
 ghost use Rattle.fab_transit.specs.MixedWalks.{plan_of as chosen, bound as lane_bound, hop_of, lane_along};
 ghost use Rattle.fab_transit.specs.Changing.{IsChanging, standing_of};
+ghost use Rattle.fab_transit.specs.Standing.{HasNoPairs, pairs_read};
 
 use crate::mixed::Side;
 use fab_model::{ChannelId, Fabric, Lid, SwitchId};
@@ -95,6 +96,13 @@ impl<'a> Plans<'a> {
         }
     }
 
+    /// Whether a plan has a map for a pair of ports. Without, lanes do not depend on the port by which a packet came.
+    pub(crate) fn have_pairs(&self) -> bool
+        ensures { result ≡ false → HasNoPairs self.now.change }
+    {
+        has_pairs(self.old) || has_pairs(self.new)
+    }
+
     /// The channel along which a plan's entry sends packets to a LID, or how a route ends at the switch.
     pub(crate) fn hop(&self, side: Side, at: SwitchId, lid: Lid) -> Result<ChannelId, End>
         requires switch { at.0 < length self.now.fabric.switches }
@@ -143,5 +151,15 @@ fn lane_count(plan: &Plan) -> u8
     match &plan.lanes {
         Some(lanes) => lanes.count(),
         None => 1,
+    }
+}
+
+/// Whether a plan has a map for a pair of ports.
+fn has_pairs(plan: &Plan) -> bool
+    ensures { result ≡ false → pairs_read plan.now.lanes ≡ [] }
+{
+    match &plan.lanes {
+        Some(lanes) => lanes.pairs() > 0,
+        None => false,
     }
 }

@@ -5,7 +5,7 @@
 //! a LID take are found one after the other, each once for each level, and not walk by walk: first those at the
 //! terminals, then those behind each one that is found. The search notes the dependencies, and the first fault.
 //!
-//! For each LID it takes a step for each terminal and for each virtual channel and level that is found.
+//! For each LID it takes a step for each start and for each virtual channel and level that is found.
 //!
 //! Source: the search is E. F. Moore's, "The Shortest Path through a Maze", Proceedings of the International
 //! Symposium on the Theory of Switching (1959); the dependencies of virtual channels are W. J. Dally's and
@@ -16,10 +16,11 @@ ghost use Rattle.std.specs.Prelude.{◌≡◌, ◌<◌, length, Contains, Some, 
 ghost use Rattle.fab_model.specs.Connected.{IsConnectedTo};
 ghost use Rattle.fab_model.specs.Topology.{lids_of};
 ghost use Rattle.fab_tables.specs.Dependencies.{node_of as number_by_lane};
-ghost use Rattle.fab_tables.specs.Starts.{AreStarts, IsOfTerminal};
+ghost use Rattle.fab_tables.specs.Starts.{IsOfTerminal};
 ghost use Rattle.fab_transit.specs.MixedWalks.{bound, standing_after};
 ghost use Rattle.fab_transit.specs.Changing.{IsChanging, standing_of};
 ghost use Rattle.fab_transit.specs.Finding.{IsTakenIn, AreRooms};
+ghost use Rattle.fab_transit.specs.Standing.{AreStanding};
 ghost use Rattle.fab_transit.specs.Walking as walking;
 
 use crate::faults::{Fault, Wrong, note};
@@ -59,7 +60,7 @@ pub(crate) fn find_walks(
     starts: &[Start],
 ) -> Result<Walks, AllocError>
     requires components { components.now ≡ plans.now.fabric }
-    requires starts { AreStarts plans.now.fabric starts.now }
+    requires starts { AreStanding plans.now.fabric plans.now.change starts.now }
     ensures { IfOk result (walking.AreWalks plans.now.fabric plans.now.change) }
 {
     let mut found = Found::new(alloc, plans)?;
@@ -75,7 +76,7 @@ pub(crate) fn find_walks(
     Ok(walks)
 }
 
-/// Begins the walks to a LID at the terminals connected to it.
+/// Begins the walks to a LID at the starts connected to it.
 fn begin(
     plans: &Plans,
     lid: Lid,
@@ -85,7 +86,7 @@ fn begin(
     walks: &mut Walks,
 ) -> Result<(), AllocError>
     requires components { components.now ≡ plans.now.fabric }
-    requires starts { AreStarts plans.now.fabric starts.now }
+    requires starts { AreStanding plans.now.fabric plans.now.change starts.now }
     requires in_use { Contains (lids_of plans.now.fabric) lid.0 }
     requires from_walks { walking.AreFromWalks plans.now.fabric plans.now.change walks.old }
     requires found_for { walking.AreFoundFor plans.now.fabric plans.now.change lid.0 found.old }

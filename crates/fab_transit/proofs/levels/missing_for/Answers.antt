@@ -26,7 +26,7 @@ are_connected-requires-clause-second c =
     omega (arith, ap (λ (t : Topology). length t.switches) c.requires.components, place_below c.args.plans.now.fabric c.fabric.ensures.kept.fabric.rows c.args.lid.0 c.in_ok-home.field-0 at)
 
 pub missing_at-missing-requires-clause-source : goal.missing_at-missing-requires-clause-source
-missing_at-missing-requires-clause-source c = source_at c.args.plans.now.fabric c.args.starts.now c.loop-start.start-index c.requires.starts c.loop-start-test.true
+missing_at-missing-requires-clause-source c = source_at c.args.plans.now.fabric c.args.plans.now.change c.args.starts.now c.loop-start.start-index c.requires.starts c.loop-start-test.true
 
 pub missing_at-missing-requires-clause-low : goal.missing_at-missing-requires-clause-low
 missing_at-missing-requires-clause-low c = start_low c.args.plans.now.fabric c.args.starts.now c.loop-start.start-index c.fabric.ensures.kept.fabric c.requires.starts.terminals c.loop-start-test.true
