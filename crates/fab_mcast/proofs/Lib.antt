@@ -1,0 +1,19 @@
+mod Examples
+pub mod OnePlanting
+pub mod AllCopies
+pub mod CopyTrees
+pub mod Separating
+pub mod PlantedTrees
+pub mod Planting
+pub mod MarkedWays
+pub mod KeptTables
+pub mod TreePorts
+pub mod Spreading
+pub mod MemberPorts
+pub mod ReadingWords
+pub mod ReadingGroups
+pub mod MembersByLid
+pub mod KnownMembers
+pub mod PlantingExists
+pub mod SpreadExists
+pub mod TablesOfGroups

@@ -1,0 +1,9 @@
+pub mod GroupList
+pub mod Reading
+pub mod GroupTrees
+pub mod Tables
+pub mod Ways
+pub mod Copies
+pub mod Sending
+pub mod Spreads
+pub mod Laws
