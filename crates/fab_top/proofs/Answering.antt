@@ -18,10 +18,10 @@ use Rattle.fab_netdiscover.specs.Writing.{text_of}
 use Rattle.fab_report.specs.Loads.{loads_of}
 use Rattle.fab_report.specs.Recipes.{generated}
 use Rattle.fab_top.specs.declared.command.Command.{Command}
-use Rattle.fab_top.specs.declared.command.Command.TheVariants.{Check, Route, Certify, Convert, Repair, Cut, Show, Load, Gen, Demo, Transit, Sweep}
+use Rattle.fab_top.specs.declared.command.Command.TheVariants.{Check, Route, Certify, Convert, Repair, Cut, Show, Load, Gen, Demo, Transit, Drain, Mcast, Spread, Sweep}
 use Rattle.fab_top.specs.Answer.{Answer, done}
-use Rattle.fab_top.specs.Answers.{IsAnswerTo, IsCheckAnswer, IsRouteAnswer, IsCertifyAnswer, IsPlanText, IsShowAnswer, IsLoadAnswer, IsSweepAnswer, verdict_answer, certified_answer, usage}
-use Rattle.fab_top.specs.Headline.{KeepsHeadlineOf, ChecksTruly, RoutesTruly, CertifiesTruly, ConvertsTruly, ShowsTruly, IsDone, SweepsTruly}
+use Rattle.fab_top.specs.Answers.{IsAnswerTo, IsCheckAnswer, IsRouteAnswer, IsCertifyAnswer, IsPlanText, IsShowAnswer, IsLoadAnswer, IsDrainAnswer, IsSweepAnswer, verdict_answer, certified_answer, usage}
+use Rattle.fab_top.specs.Headline.{KeepsHeadlineOf, ChecksTruly, RoutesTruly, CertifiesTruly, ConvertsTruly, ShowsTruly, IsDone, DrainsTruly, SweepsTruly}
 use Rattle.fab_top.specs.Laws.{OneAnswer, AnswersKeepHeadline, StatusIsSmall, AnswerExists}
 use Rattle.fab_top.specs.Ran.{files_of}
 use Rattle.fab_top.specs.ReportTexts.{load_text}
@@ -37,6 +37,8 @@ use Rattle.fab_top.proofs.Laying.EngineAnswers.{one_route, route_keeps, route_is
 use Rattle.fab_top.proofs.Repairing.{repair_kept, one_repair, repair_is_small, repair_exists}
 use Rattle.fab_top.proofs.Showing.{one_show, show_keeps, show_is_small, show_exists}
 use Rattle.fab_top.proofs.Transiting.{transit_kept, one_transit, transit_is_small, transit_exists}
+use Rattle.fab_top.proofs.Draining.{one_drain, drain_keeps, drain_is_small, drain_exists}
+use Rattle.fab_top.proofs.Spreading.{mcast_kept, one_mcast_to, mcast_is_small, mcast_to_exists, spread_kept, one_spread_to, spread_is_small, spread_to_exists}
 use Rattle.fab_top.proofs.Sweeping.{one_sweep, sweep_keeps, sweep_is_small, sweep_exists}
 use Rattle.fab_top.proofs.SpelledCommands.{CanBeDone, can_be_done}
 
@@ -134,6 +136,12 @@ one_answer_to w (Some (Gen recipe)) a b doable told first second = first ∙ sym
 one_answer_to w (Some (Demo recipe engine)) a b doable told first second = one_demo engine (generated recipe) a b (fitting_is_fabric recipe doable.recipe) first second
 one_answer_to w (Some (Transit fabric old new)) a b doable told first second =
     one_transit w fabric old new (first_told w fabric (old ∷ new ∷ []) told) (second_told w fabric old (new ∷ []) told) (third_told w fabric old new told) a b first second
+one_answer_to w (Some (Drain fabric plan)) a b doable told first second =
+    both_one w fabric plan IsDrainAnswer a b told (λ t p read x y. one_drain t p a b read x y) first second
+one_answer_to w (Some (Mcast fabric groups)) a b doable told first second =
+    one_mcast_to w fabric groups (first_told w fabric (groups ∷ []) told) (second_told w fabric groups [] told) a b first second
+one_answer_to w (Some (Spread fabric groups group from)) a b doable told first second =
+    one_spread_to w fabric groups group from.0 (first_told w fabric (groups ∷ []) told) (second_told w fabric groups [] told) a b first second
 one_answer_to w (Some (Sweep what fabric plan lanes)) a b doable told first second =
     both_one w fabric plan (IsSweepAnswer what lanes) a b told (λ t p read x y. one_sweep what lanes t p a b read.fabric doable.lanes x y) first second
 
@@ -164,6 +172,9 @@ keeps_by w (Some (Load fabric plan)) a doable is = both_weaker w fabric plan IsL
 keeps_by w (Some (Gen recipe)) a doable is = generates_truly recipe a doable.recipe is
 keeps_by w (Some (Demo recipe engine)) a doable is = demo_keeps engine (generated recipe) a (fitting_is_fabric recipe doable.recipe) is
 keeps_by w (Some (Transit fabric old new)) a doable is = transit_kept w fabric old new a is
+keeps_by w (Some (Drain fabric plan)) a doable is = both_weaker w fabric plan IsDrainAnswer DrainsTruly a (λ t p read x. drain_keeps t p a read x) is
+keeps_by w (Some (Mcast fabric groups)) a doable is = mcast_kept w fabric groups a is
+keeps_by w (Some (Spread fabric groups group from)) a doable is = spread_kept w fabric groups group from.0 a is
 keeps_by w (Some (Sweep what fabric plan lanes)) a doable is =
     both_weaker w fabric plan (IsSweepAnswer what lanes) (SweepsTruly what lanes) a (λ t p read x. sweep_keeps what lanes t p a read.fabric doable.lanes x) is
 
@@ -197,6 +208,11 @@ small_by w (Some (Gen recipe)) a told is = at_most_3 a.status (done_is_small (te
 small_by w (Some (Demo recipe engine)) a told is = demo_is_small engine (generated recipe) a is
 small_by w (Some (Transit fabric old new)) a told is =
     transit_is_small w fabric old new (first_told w fabric (old ∷ new ∷ []) told) (second_told w fabric old (new ∷ []) told) (third_told w fabric old new told) a is
+small_by w (Some (Drain fabric plan)) a told is = both_small w fabric plan IsDrainAnswer a told (λ t p x. drain_is_small t p a x) is
+small_by w (Some (Mcast fabric groups)) a told is =
+    mcast_is_small w fabric groups (first_told w fabric (groups ∷ []) told) (second_told w fabric groups [] told) a is
+small_by w (Some (Spread fabric groups group from)) a told is =
+    spread_is_small w fabric groups group from.0 (first_told w fabric (groups ∷ []) told) (second_told w fabric groups [] told) a is
 small_by w (Some (Sweep what fabric plan lanes)) a told is = both_small w fabric plan (IsSweepAnswer what lanes) a told (λ t p x. sweep_is_small what lanes t p a x) is
 
 pub status_is_small : StatusIsSmall
@@ -226,6 +242,11 @@ exists_by w (Some (Gen recipe)) doable told = (done (text_of (generated recipe))
 exists_by w (Some (Demo recipe engine)) doable told = demo_exists engine (generated recipe) (fitting_is_fabric recipe doable.recipe) doable.lanes
 exists_by w (Some (Transit fabric old new)) doable told =
     transit_exists w fabric old new (first_told w fabric (old ∷ new ∷ []) told) (second_told w fabric old (new ∷ []) told) (third_told w fabric old new told)
+exists_by w (Some (Drain fabric plan)) doable told = both_exist w fabric plan IsDrainAnswer told (λ t p read. drain_exists t p read)
+exists_by w (Some (Mcast fabric groups)) doable told =
+    mcast_to_exists w fabric groups (first_told w fabric (groups ∷ []) told) (second_told w fabric groups [] told)
+exists_by w (Some (Spread fabric groups group from)) doable told =
+    spread_to_exists w fabric groups group from.0 (first_told w fabric (groups ∷ []) told) (second_told w fabric groups [] told)
 exists_by w (Some (Sweep what fabric plan lanes)) doable told = both_exist w fabric plan (IsSweepAnswer what lanes) told (λ t p read. sweep_exists what lanes t p read doable.lanes)
 
 pub answer_exists : AnswerExists

@@ -16,6 +16,9 @@ pub mod Showing
 pub mod Laying
 pub mod Repairing
 pub mod Transiting
+pub mod Draining
+pub mod NamedGroups
+pub mod Spreading
 pub mod Sweeping
 pub mod Answering
 pub mod TheHeadline

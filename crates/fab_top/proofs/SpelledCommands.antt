@@ -5,6 +5,8 @@ use Rattle.std.specs.Prelude.{option_map, option_and_then, find, if◌then◌els
 use Rattle.std.specs.Bool.{then_some}
 use Rattle.std.specs.Str.{bytes_eq}
 use Rattle.std.proofs.lemmas.List.{length-map}
+use Rattle.fab_model.specs.declared.rows.Lid.{Lid}
+use Rattle.fab_model.specs.Topology.{lid_id}
 use Rattle.fab_report.specs.declared.recipe.Kind.{Kind}
 use Rattle.fab_report.specs.declared.recipe.Recipe.{Recipe}
 use Rattle.fab_report.specs.Laws.{HasSeed}
@@ -13,9 +15,9 @@ use Rattle.fab_sweep.specs.declared.Failing.{Failing}
 use Rattle.fab_top.specs.declared.command.Engine.{Engine}
 use Rattle.fab_top.specs.Engines.{IsLaneCount, HasLaneCount}
 use Rattle.fab_top.specs.declared.command.Command.{Command}
-use Rattle.fab_top.specs.declared.command.Command.TheVariants.{Check, Route, Certify, Convert, Repair, Cut, Load, Gen, Demo, Transit, Sweep}
+use Rattle.fab_top.specs.declared.command.Command.TheVariants.{Check, Route, Certify, Convert, Repair, Cut, Load, Gen, Demo, Transit, Drain, Mcast, Spread, Sweep}
 use Rattle.fab_top.specs.Ran.{files_of}
-use Rattle.fab_top.specs.Words.{texts, is_file, named, number_in, kinds, two_files, recipe_of, recipe_in, lid_in, flagged_lanes, are_three_files, repair_words, show_from_to, show_words, gen_words, engine_in, asked_behind, asked_by, route_words, demo_words, transit_words, failings, sweep_words, commands, command_of}
+use Rattle.fab_top.specs.Words.{texts, is_file, named, number_in, kinds, two_files, recipe_of, recipe_in, lid_in, group_in, flagged_lanes, are_three_files, repair_words, show_from_to, show_words, gen_words, engine_in, asked_behind, asked_by, route_words, demo_words, transit_words, spread_words, failings, sweep_words, commands, command_of}
 use Rattle.fab_top.proofs.LowNumbers.{number_is_low}
 use Rattle.fab_top.proofs.AskedLanes.{engine_after, asked_behind_rightly, asked_by_rightly, flagged_in_range}
 
@@ -180,6 +182,21 @@ transit_within (a ∷ b ∷ c ∷ []) made e =
     made_if 4 (are_three_files a b c) (Transit 1 2 3) made e (record { places = (omega arith, (omega arith, (omega arith, tt))); asks = record { recipe = tt; lanes = tt } })
 transit_within (a ∷ b ∷ c ∷ d ∷ rest) made e = cc
 
+made_spread : (files : Bool) (group : Option ℕ) (lid : Option Lid) (made : Command) →
+    option_and_then (λ number. option_and_then (λ from. then_some files (Spread 1 2 number from)) lid) group ≡ Some made → IsSpelledBy 5 made
+made_spread files None lid made e = cc
+made_spread files (Some group) None made e = cc
+made_spread files (Some group) (Some lid) made e =
+    made_if 5 files (Spread 1 2 group lid) made e (record { places = (omega arith, (omega arith, tt)); asks = record { recipe = tt; lanes = tt } })
+
+spread_within : SpellsRightly spread_words
+spread_within [] made e = cc
+spread_within (a ∷ []) made e = cc
+spread_within (a ∷ b ∷ []) made e = cc
+spread_within (a ∷ b ∷ c ∷ []) made e = cc
+spread_within (a ∷ b ∷ c ∷ d ∷ []) made e = made_spread (is_file a && is_file b) (group_in c) (option_map lid_id (lid_in d)) made e
+spread_within (a ∷ b ∷ c ∷ d ∷ x ∷ rest) made e = cc
+
 made_sweep : (files : Bool) (what : Option Failing) (lanes : Option ℕ) (made : Command) → IfSome lanes IsLaneCount →
     option_and_then (λ one. option_and_then (λ n. then_some files (Sweep one 2 3 n)) lanes) what ≡ Some made → IsSpelledBy 6 made
 made_sweep files None lanes made count e = cc
@@ -236,7 +253,19 @@ all_right = (
               show_within,
               (
                 two_within (λ f p. Load f p) (record { places = both_places; asks = record { recipe = tt; lanes = tt } }),
-                (gen_within, (demo_within, (transit_within, (sweep_within, tt)))),
+                (
+                  gen_within,
+                  (
+                    demo_within,
+                    (
+                      transit_within,
+                      (
+                        two_within (λ f p. Drain f p) (record { places = both_places; asks = record { recipe = tt; lanes = tt } }),
+                        (two_within (λ f g. Mcast f g) (record { places = both_places; asks = record { recipe = tt; lanes = tt } }), (spread_within, (sweep_within, tt))),
+                      ),
+                    ),
+                  ),
+                ),
               ),
             ),
           ),

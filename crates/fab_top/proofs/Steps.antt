@@ -5,5 +5,6 @@ pub mod WithoutFiles
 pub mod OnFabric
 pub mod OnBoth
 pub mod OnTwoPlans
+pub mod OnGroups
 pub mod AfterFiles
 pub mod AfterList

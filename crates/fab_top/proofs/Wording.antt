@@ -9,7 +9,7 @@ use Rattle.fab_model.specs.declared.rows.Lid.{Lid}
 use Rattle.fab_model.specs.Topology.{lid_id}
 use Rattle.fab_top.specs.declared.command.Command.{Command}
 use Rattle.fab_top.specs.declared.command.Command.TheVariants.{Show}
-use Rattle.fab_top.specs.Words.{texts, is_file, lid_in, named, kinds, repair_words, transit_words, show_from_to, show_words, gen_words, route_words, demo_words, failings, sweep_words, command_of, commands}
+use Rattle.fab_top.specs.Words.{texts, is_file, lid_in, named, kinds, repair_words, transit_words, show_from_to, show_words, gen_words, route_words, demo_words, spread_words, failings, sweep_words, command_of, commands}
 
 -- a word that a table does not begin with is looked for behind
 other_word : (b : Bool) (xs ys : List ℕ) → Decides b (xs ≡ ys) → (ys ≡ xs → ⊥) → b ≡ false
@@ -75,6 +75,14 @@ no_transit (a ∷ []) other = refl
 no_transit (a ∷ b ∷ []) other = refl
 no_transit (a ∷ b ∷ c ∷ []) other = absurd (other (omega arith))
 no_transit (a ∷ b ∷ c ∷ d ∷ rest) other = refl
+
+pub no_spread : {Z : Type 0} (others : List (String Z)) → (length others ≡ 4 → ⊥) → None ≡ spread_words (texts others)
+no_spread [] other = refl
+no_spread (a ∷ []) other = refl
+no_spread (a ∷ b ∷ []) other = refl
+no_spread (a ∷ b ∷ c ∷ []) other = refl
+no_spread (a ∷ b ∷ c ∷ d ∷ []) other = absurd (other (omega arith))
+no_spread (a ∷ b ∷ c ∷ d ∷ x ∷ rest) other = refl
 
 pub no_sweep : {Z : Type 0} (others : List (String Z)) → (length others ≡ 5 → ⊥) → None ≡ sweep_words (texts others)
 no_sweep [] other = refl

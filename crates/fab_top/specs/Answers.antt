@@ -1,5 +1,5 @@
 -- The answer to words and files. A command that is added adds a case to `IsAnswerTo`, and the words of its case.
-use Rattle.std.specs.Prelude.{◌≡◌, ◌⊎◌, ℕ, List, [], ◌++◌, Option, None, Some, MatchOption}
+use Rattle.std.specs.Prelude.{◌≡◌, ◌⊎◌, ℕ, List, [], ◌++◌, map, Option, None, Some, MatchOption, slice_get}
 use Rattle.fab_model.specs.declared.rows.Place.{Place}
 use Rattle.fab_model.specs.Topology.{Topology}
 use Rattle.fab_tables.specs.declared.end.End.{End}
@@ -24,21 +24,33 @@ use Rattle.fab_transit.specs.declared.mixed.Mixed.{Mixed}
 use Rattle.fab_transit.specs.declared.mixed.Mixed.TheVariants as mixed
 use Rattle.fab_transit.specs.MixedWalks.{Change, bound}
 use Rattle.fab_transit.specs.Answers as change
+use Rattle.fab_drain.specs.declared.state.Drained.{Drained}
+use Rattle.fab_drain.specs.declared.state.Drained.TheVariants.{Empty, Waiting}
+use Rattle.fab_drain.specs.declared.state.Filled.{Filled}
+use Rattle.fab_drain.specs.declared.state.Filled.TheVariants as filled
+use Rattle.fab_drain.specs.Loads.{Load as Packets, packet_count}
+use Rattle.fab_drain.specs.Fills.{IsFilled}
+use Rattle.fab_drain.specs.Drains.{EndsAs}
+use Rattle.fab_mcast.specs.GroupList.{Group}
+use Rattle.fab_mcast.specs.GroupTrees.{Planted, ArePlanted, entries_at}
+use Rattle.fab_mcast.specs.Spreads.{IsSpread}
 use Rattle.fab_sweep.specs.declared.Failing.{Failing}
 use Rattle.fab_sweep.specs.declared.rows.SweepRow.{SweepRow}
 use Rattle.fab_sweep.specs.Sweeps.{AreSweepRows}
 use Rattle.fab_top.specs.declared.command.Engine.{Engine}
 use Rattle.fab_top.specs.declared.command.Command.{Command}
-use Rattle.fab_top.specs.declared.command.Command.TheVariants.{Check, Route, Certify, Convert, Repair, Cut, Show, Load, Gen, Demo, Transit, Sweep}
+use Rattle.fab_top.specs.declared.command.Command.TheVariants.{Check, Route, Certify, Convert, Repair, Cut, Show, Load, Gen, Demo, Transit, Drain, Mcast, Spread, Sweep}
 use Rattle.fab_top.specs.Words.{command_of}
 use Rattle.fab_top.specs.Usage.{usage_text}
 use Rattle.fab_top.specs.Answer.{Answer, done, no}
 use Rattle.fab_top.specs.Texts.{verdict_text, ring_text, from_text, end_text}
 use Rattle.fab_top.specs.Engines.{Lays, RefusesWith}
-use Rattle.fab_top.specs.Files.{known_place}
+use Rattle.fab_top.specs.Files.{known_place, known_group, known_member, members_in}
+use Rattle.fab_top.specs.GroupTexts.{groups_text, spread_text}
 use Rattle.fab_top.specs.ChangeTexts.{mixed_text}
+use Rattle.fab_top.specs.DrainTexts.{drained_text, waiting_text}
 use Rattle.fab_top.specs.ReportTexts.{kept_text, load_text, summary_text, sweep_text}
-use Rattle.fab_top.specs.Seen.{Seen, After, WithFabric, WithPlan, WithBoth, WithoutFailed}
+use Rattle.fab_top.specs.Seen.{Seen, After, WithFabric, WithPlan, WithBoth, WithoutFailed, WithGroups}
 
 -- ---- check
 
@@ -141,6 +153,45 @@ abbrev pub IsTransitAnswer : Topology → Plan → Plan → Answer → Type 0
 IsTransitAnswer t old new answer =
     (told : Mixed) × change.IsAnswerTo t (change_of old new) told × (answer ≡ change_answer t (bound (change_of old new)) told)
 
+-- ---- drain
+
+-- how the load ends: with the packets that were there at first, or those that wait at the end
+abbrev pub drained_answer : Topology → Packets → Packets → Drained → Answer
+drained_answer t old new (Empty moves) = done (drained_text (packet_count old) moves)
+drained_answer t old new (Waiting moves ring) = no (waiting_text t new.count (packet_count new) moves ring)
+
+abbrev pub IsDrainedFrom : Topology → Plan → Packets → Answer → Type 0
+IsDrainedFrom t p old answer = (new : Packets) × (drained : Drained) × EndsAs t p old new drained × (answer ≡ drained_answer t old new drained)
+
+-- the load that fills the fabric is drained, or the verdict is told for which there is none
+abbrev pub IsDrained : Topology → Plan → Filled → Answer → Type 0
+IsDrained t p (filled.Refused fault) answer = answer ≡ no (verdict_text t fault)
+IsDrained t p (filled.Full old) answer = IsDrainedFrom t p old answer
+
+abbrev pub IsDrainAnswer : Topology → Plan → Answer → Type 0
+IsDrainAnswer t p answer = (load : Filled) × IsFilled t p load × IsDrained t p load answer
+
+-- ---- mcast and spread
+
+abbrev pub members_by_group : List Group → List (List ℕ)
+members_by_group groups = map (λ (g : Group). g.members) groups
+
+abbrev pub IsMcastAnswer : Topology → List Group → Answer → Type 0
+IsMcastAnswer t groups answer = (tables : List Planted) × ArePlanted t (members_by_group groups) tables × (answer ≡ done (groups_text t groups tables))
+
+-- from a member of the group at this place of the list
+abbrev pub IsSpreadFrom : Topology → List Group → ℕ → ℕ → Answer → Type 0
+IsSpreadFrom t groups index from answer =
+    (tables : List Planted) × (found : List ℕ) × ArePlanted t (members_by_group groups) tables × IsSpread t (entries_at tables index) from found × (answer ≡ done (spread_text t found))
+
+-- the group is asked for before its member that has the LID
+abbrev pub AfterMember : ℕ → ℕ → Topology → List Group → (ℕ → ℕ → Answer → Type 0) → Answer → Type 0
+AfterMember group lid t groups rest answer =
+    After (known_group groups group) (λ index. After (known_member t (members_in (slice_get groups index)) lid) (rest index)) answer
+
+abbrev pub IsSpreadAnswer : ℕ → ℕ → Topology → List Group → Answer → Type 0
+IsSpreadAnswer group lid t groups answer = AfterMember group lid t groups (IsSpreadFrom t groups) answer
+
 -- ---- sweep
 
 abbrev pub IsSweepAnswer : Failing → ℕ → Topology → Plan → Answer → Type 0
@@ -160,6 +211,9 @@ IsAnswerTo w (Load fabric plan) answer = WithBoth w fabric plan IsLoadAnswer ans
 IsAnswerTo w (Gen recipe) answer = IsFabricText (generated recipe) answer
 IsAnswerTo w (Demo recipe engine) answer = IsDemoAnswer engine (generated recipe) answer
 IsAnswerTo w (Transit fabric old new) answer = WithBoth w fabric old (λ t p. WithPlan w t new (IsTransitAnswer t p)) answer
+IsAnswerTo w (Drain fabric plan) answer = WithBoth w fabric plan IsDrainAnswer answer
+IsAnswerTo w (Mcast fabric groups) answer = WithFabric w fabric (λ t. WithGroups w t groups (IsMcastAnswer t)) answer
+IsAnswerTo w (Spread fabric groups group from) answer = WithFabric w fabric (λ t. WithGroups w t groups (IsSpreadAnswer group from.0 t)) answer
 IsAnswerTo w (Sweep what fabric plan lanes) answer = WithBoth w fabric plan (IsSweepAnswer what lanes) answer
 
 abbrev pub usage : Answer

@@ -13,6 +13,8 @@ use Rattle.fab_dump.specs.Writing.{hex4}
 use Rattle.fab_dump.specs.declared.fault.PlanFault.TheVariants as plan
 use Rattle.fab_repair.specs.declared.fault.FailedFault.{FailedFault}
 use Rattle.fab_repair.specs.declared.fault.FailedFault.TheVariants as failed
+use Rattle.fab_mcast.specs.declared.fault.GroupFault.{GroupFault}
+use Rattle.fab_mcast.specs.declared.fault.GroupFault.TheVariants as groups
 
 -- behind the file's name, and behind its name and a line
 abbrev pub in_file : List ℕ → List ℕ → List ℕ
@@ -69,6 +71,12 @@ abbrev pub failed_fault_text : List ℕ → FailedFault → List ℕ
 failed_fault_text name (failed.BadLine line) = on_line name line (codes "bad line")
 failed_fault_text name (failed.Memory refused) = []
 
+abbrev pub group_fault_text : List ℕ → GroupFault → List ℕ
+group_fault_text name (groups.BadLine line) = on_line name line (codes "bad line")
+group_fault_text name (groups.TwiceGroup line) = on_line name line (codes "group given twice")
+group_fault_text name (groups.UnknownMember line) = on_line name line (codes "unknown member")
+group_fault_text name (groups.Memory refused) = []
+
 -- ---- what was named and isn't in the fabric
 
 -- a cable of a file, by its place in the list there, which is told from 1 on
@@ -85,3 +93,11 @@ without_fault_text name (lost.Memory refused) = []
 
 abbrev pub unknown_lid_text : ℕ → List ℕ
 unknown_lid_text lid = in_file (codes "lid " ++ hex4 lid) (codes "not in the fabric")
+
+-- ---- what was named and isn't in a list of groups
+
+abbrev pub unknown_group_text : ℕ → List ℕ
+unknown_group_text group = in_file (codes "group " ++ hex4 group) (codes "not in the list")
+
+abbrev pub no_member_text : ℕ → List ℕ
+no_member_text lid = in_file (codes "lid " ++ hex4 lid) (codes "not in the group")

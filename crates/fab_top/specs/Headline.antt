@@ -1,5 +1,6 @@
 -- The headline, and what the program promises of its answers, command by command.
-use Rattle.std.specs.Prelude.{◌≡◌, ◌↔◌, ◌⊎◌, ℕ, ◌≤◌, List, [], ◌++◌, length, Option, None, Some, Ok, MatchOption, IsTrue}
+use Rattle.std.specs.Prelude.{◌≡◌, ◌↔◌, ◌⊎◌, ℕ, ◌≤◌, List, [], ◌++◌, length, map, Contains, Option, None, Some, Ok, MatchOption, IsTrue, slice_get}
+use Rattle.std.specs.List.Sorted.{IsStrictlyIncreasing}
 use Rattle.fab_graph.specs.Walks.{IsAcyclic, Rises}
 use Rattle.fab_model.specs.declared.rows.Cable.{Cable}
 use Rattle.fab_model.specs.declared.rows.Place.{Place}
@@ -22,21 +23,28 @@ use Rattle.fab_report.specs.Summary.{summary_of}
 use Rattle.fab_transit.specs.MixedWalks.{DependsMixed}
 use Rattle.fab_transit.specs.Answers.{HasNoFault}
 use Rattle.fab_transit.specs.Safe as change
+use Rattle.fab_drain.specs.Loads.{Load as Packets, packet_count, hops_left}
+use Rattle.fab_drain.specs.Fills.{IsFilling}
+use Rattle.fab_mcast.specs.GroupList.{Group}
+use Rattle.fab_mcast.specs.GroupTrees.{Planted}
+use Rattle.fab_mcast.specs.Spreads.{IsSpread, IsOtherMember, ReachesMembers}
 use Rattle.fab_sweep.specs.declared.Failing.{Failing}
 use Rattle.fab_sweep.specs.Sweeps.{AreRepairsCertified}
 use Rattle.fab_top.specs.declared.command.Engine.{Engine}
 use Rattle.fab_top.specs.declared.command.Engine.TheVariants.{Nue}
 use Rattle.fab_top.specs.declared.command.Command.{Command}
-use Rattle.fab_top.specs.declared.command.Command.TheVariants.{Check, Route, Certify, Convert, Repair, Cut, Show, Load, Gen, Demo, Transit, Sweep}
+use Rattle.fab_top.specs.declared.command.Command.TheVariants.{Check, Route, Certify, Convert, Repair, Cut, Show, Load, Gen, Demo, Transit, Drain, Mcast, Spread, Sweep}
 use Rattle.fab_top.specs.Words.{command_of}
 use Rattle.fab_top.specs.Answer.{Answer, done}
-use Rattle.fab_top.specs.Answers.{IsAnswer, repaired, change_of}
+use Rattle.fab_top.specs.Answers.{IsAnswer, repaired, change_of, members_by_group, AfterMember}
 use Rattle.fab_top.specs.Engines.{Lays, RefusesWith, has_lanes, never_refuses}
-use Rattle.fab_top.specs.Files.{fabric_limit, fabric_in, plan_in, failed_in, without_failed, known_place}
+use Rattle.fab_top.specs.Files.{fabric_limit, fabric_in, plan_in, failed_in, without_failed, known_place, members_in}
+use Rattle.fab_top.specs.GroupTexts.{groups_text, spread_text}
 use Rattle.fab_top.specs.ChangeTexts.{transit_text}
+use Rattle.fab_top.specs.DrainTexts.{drained_text}
 use Rattle.fab_top.specs.ReportTexts.{summary_text}
 use Rattle.fab_top.specs.Texts.{ok_routes, ok_lanes}
-use Rattle.fab_top.specs.Seen.{Seen, Content, After, WithFabric, WithPlan, WithBoth, WithoutFailed, word_at}
+use Rattle.fab_top.specs.Seen.{Seen, Content, After, WithFabric, WithPlan, WithBoth, WithoutFailed, WithGroups, word_at}
 
 -- following the tables from every switch reaches every LID connected to it, and meets no switch twice
 abbrev pub FollowsWell : Topology → Entries → Type 0
@@ -221,6 +229,42 @@ pub record TransitsTruly (t : Topology) (old new : Plan) (answer : Answer) : Typ
   pub done : Done answer ↔ (HasNoFault t (change_of old new) × IsAcyclic (DependsMixed t (change_of old new)))
   pub safe : Done answer → (l : LaneTables) × change.IsSafe t (change_of old new) l × (answer.out ≡ transit_text t l)
 
+-- ---- drain
+
+-- the counts of a load that fills the fabric and has made a move for each remaining hop
+abbrev pub IsEmptied : Topology → Plan → List ℕ → Type 0
+IsEmptied t p text = (load : Packets) × IsFilling t p load × (text ≡ drained_text (packet_count load) (hops_left load))
+
+-- Where it is done, the load that fills the fabric ends empty, with a move for each remaining hop. So it is on each certified plan. Where it
+-- isn't done, nothing is on the output.
+pub record DrainsTruly (t : Topology) (p : Plan) (answer : Answer) : Type 0 where
+  pub emptied : Done answer → IsEmptied t p answer.out
+  pub certified : IsCertified t p → Done answer
+  pub nothing : ¬ Done answer → answer.out ≡ []
+
+-- ---- mcast and spread
+
+-- from each member of each group each other one that is connected to it is reached once, and nothing else
+abbrev pub AllReach : Topology → List Planted → Type 0
+AllReach t tables = (index from : ℕ) (group : Planted) → slice_get tables index ≡ Some group → Contains group.members from → ReachesMembers t group.members group.ports from
+
+-- the tables that are told are those of the groups, and they reach
+pub record PlantsTruly (t : Topology) (groups : List Group) (answer : Answer) : Type 0 where
+  pub done : Done answer
+  pub tables : List Planted
+  pub of_groups : map (λ (g : Planted). g.members) tables ≡ members_by_group groups
+  pub reach : AllReach t tables
+  pub told : answer.out ≡ groups_text t groups tables
+
+-- the members are told, in ascending order, that are connected to this one and differ from it; each of them is reached once
+pub record SpreadsTruly (t : Topology) (groups : List Group) (index from : ℕ) (answer : Answer) : Type 0 where
+  pub done : Done answer
+  pub found : List ℕ
+  pub ascending : IsStrictlyIncreasing found
+  pub members : (n : ℕ) → Contains found n ↔ IsOtherMember t (members_in (slice_get groups index)) from n
+  pub once : (entries : List (List ℕ)) × IsSpread t entries from found × ReachesMembers t (members_in (slice_get groups index)) entries from
+  pub told : answer.out ≡ spread_text t found
+
 -- ---- sweep
 
 -- it is done, and the repaired plan of each failure is certified for the fabric that the failure leaves
@@ -240,6 +284,10 @@ KeepsHeadlineOf w (Load fabric plan) answer = WithBoth w fabric plan IsDone answ
 KeepsHeadlineOf w (Gen recipe) answer = GeneratesTruly recipe answer
 KeepsHeadlineOf w (Demo recipe engine) answer = ShowsOff engine (generated recipe) answer
 KeepsHeadlineOf w (Transit fabric old new) answer = WithBoth w fabric old (λ t p. WithPlan w t new (TransitsTruly t p)) answer
+KeepsHeadlineOf w (Drain fabric plan) answer = WithBoth w fabric plan DrainsTruly answer
+KeepsHeadlineOf w (Mcast fabric groups) answer = WithFabric w fabric (λ t. WithGroups w t groups (PlantsTruly t)) answer
+KeepsHeadlineOf w (Spread fabric groups group from) answer =
+    WithFabric w fabric (λ t. WithGroups w t groups (λ listed. AfterMember group from.0 t listed (SpreadsTruly t listed))) answer
 KeepsHeadlineOf w (Sweep what fabric plan lanes) answer = WithBoth w fabric plan (SweepsTruly what lanes) answer
 
 abbrev pub KeepsHeadline : Seen → Answer → Type 0

@@ -6,6 +6,8 @@ pub mod Engines
 pub mod Texts
 pub mod ReportTexts
 pub mod ChangeTexts
+pub mod DrainTexts
+pub mod GroupTexts
 pub mod FaultTexts
 pub mod Files
 pub mod Seen

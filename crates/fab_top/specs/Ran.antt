@@ -5,7 +5,7 @@ use Rattle.std.specs.Prelude.{◌≡◌, ℕ, ◌<◌, ◌≤◌, ◌⊎◌, Lis
 use Rattle.std.specs.Option.{option_map_or}
 use Rattle.fab_io.specs.Faults.{Rose}
 use Rattle.fab_top.specs.declared.command.Command.{Command}
-use Rattle.fab_top.specs.declared.command.Command.TheVariants.{Check, Route, Certify, Convert, Repair, Cut, Show, Load, Gen, Demo, Transit, Sweep}
+use Rattle.fab_top.specs.declared.command.Command.TheVariants.{Check, Route, Certify, Convert, Repair, Cut, Show, Load, Gen, Demo, Transit, Drain, Mcast, Spread, Sweep}
 use Rattle.fab_top.specs.Words.{command_of}
 use Rattle.fab_top.specs.Answer.{Answer, unread}
 use Rattle.fab_top.specs.Seen.{seen, seen_failing, word_at}
@@ -36,6 +36,9 @@ files_of (Load fabric plan) = fabric ∷ plan ∷ []
 files_of (Gen recipe) = []
 files_of (Demo recipe engine) = []
 files_of (Transit fabric old new) = fabric ∷ old ∷ new ∷ []
+files_of (Drain fabric plan) = fabric ∷ plan ∷ []
+files_of (Mcast fabric groups) = fabric ∷ groups ∷ []
+files_of (Spread fabric groups group from) = fabric ∷ groups ∷ []
 files_of (Sweep what fabric plan lanes) = fabric ∷ plan ∷ []
 
 abbrev pub files_named : List (List ℕ) → List ℕ

@@ -3,8 +3,9 @@ use Rattle.std.specs.Prelude.{◌≡◌, ℕ, List, [], Option, None, Some, Resu
 use Rattle.fab_model.specs.declared.rows.Cable.{Cable}
 use Rattle.fab_model.specs.Topology.{Topology}
 use Rattle.fab_tables.specs.declared.plan.Plan.{Plan}
+use Rattle.fab_mcast.specs.GroupList.{Group}
 use Rattle.fab_top.specs.Answer.{Answer, refused, unread}
-use Rattle.fab_top.specs.Files.{fabric_in, plan_in, failed_in, without_failed}
+use Rattle.fab_top.specs.Files.{fabric_in, plan_in, failed_in, groups_in, without_failed}
 
 -- the content of a file: told, not told, or one that can't be read
 pub data Content : Type 0 where
@@ -61,3 +62,7 @@ WithFailed w place rest answer = AfterFile (word_at w.words place) (w.content pl
 -- after it is read, and its cables are all in the fabric: with the fabric without them
 abbrev pub WithoutFailed : Seen → Topology → ℕ → (Topology → Answer → Type 0) → Answer → Type 0
 WithoutFailed w t failed rest answer = WithFailed w failed (λ cables. After (without_failed (word_at w.words failed) t cables) rest) answer
+
+-- after a list of groups of a fabric is read
+abbrev pub WithGroups : Seen → Topology → ℕ → (List Group → Answer → Type 0) → Answer → Type 0
+WithGroups w t place rest answer = AfterFile (word_at w.words place) (w.content place) (groups_in t) rest answer

@@ -12,10 +12,13 @@
 --     gen KIND A B SEED
 --     demo KIND A B SEED ENGINE N
 --     transit FABRIC OLD NEW
+--     drain FABRIC PLAN
+--     mcast FABRIC GROUPS
+--     spread FABRIC GROUPS GROUP LID
 --     sweep cables|switches FABRIC PLAN --lanes N
 -- A file's word is not empty and does not begin with two dashes. A file is named by the place of its word. Numbers are
 -- decimal, without leading zeros. A LID is a decimal number, or `0x` and 1 to 4 hexadecimal digits. A GUID is `0x` and 1 to 16
--- hexadecimal digits. N is a lane count, 1 to 15, and 0 in a demonstration of an engine that takes none.
+-- hexadecimal digits, a GROUP is `0x` and 4. N is a lane count, 1 to 15, and 0 in a demonstration of an engine that takes none.
 use Rattle.std.specs.Prelude.{ℕ, ◌-◌, ◌^◌, Bool, false, ◌&&◌, not, List, [], ◌∷◌, length, map, Option, None, Some, option_map, option_and_then, find, nat_lt, ◌==◌, if◌then◌else◌, codes, String}
 use Rattle.std.specs.Bool.{then_some}
 use Rattle.std.specs.List.{starts_with}
@@ -54,6 +57,10 @@ number_in greatest word = if has_leading_zero word then None else dec_up_to grea
 -- a LID, which need not be in use
 abbrev pub lid_in : List ℕ → Option ℕ
 lid_in word = option_or (hex 4 word) (number_in 65535 word)
+
+-- a group's number, which need not be in the list
+abbrev pub group_in : List ℕ → Option ℕ
+group_in word = if length word == 6 then hex 4 word else None
 
 -- what a table has for a word
 abbrev pub named : {A : Type 0} → List (List ℕ × A) → List ℕ → Option A
@@ -185,6 +192,11 @@ abbrev pub transit_words : List (List ℕ) → Option Command
 transit_words (fabric ∷ old ∷ new ∷ []) = then_some (are_three_files fabric old new) (command.Transit 1 2 3)
 transit_words _ = None
 
+abbrev pub spread_words : List (List ℕ) → Option Command
+spread_words (fabric ∷ groups ∷ group ∷ from ∷ []) =
+    option_and_then (λ number. option_and_then (λ lid. then_some (is_file fabric && is_file groups) (command.Spread 1 2 number lid)) (option_map lid_id (lid_in from))) (group_in group)
+spread_words _ = None
+
 abbrev pub failings : List (List ℕ × Failing)
 failings = (codes "cables", failing.Cables) ∷ (codes "switches", failing.Switches) ∷ []
 
@@ -206,6 +218,9 @@ commands =
     ∷ (codes "gen", gen_words)
     ∷ (codes "demo", demo_words)
     ∷ (codes "transit", transit_words)
+    ∷ (codes "drain", two_files command.Drain)
+    ∷ (codes "mcast", two_files command.Mcast)
+    ∷ (codes "spread", spread_words)
     ∷ (codes "sweep", sweep_words)
     ∷ []
 

@@ -88,6 +88,23 @@ pub enum Command {
         old: usize,
         new: usize,
     },
+    /// How packets drain that fill a fabric, one on each virtual channel that some route of a plan uses.
+    Drain {
+        fabric: usize,
+        plan: usize,
+    },
+    /// The trees of groups, as the entries of each switch.
+    Mcast {
+        fabric: usize,
+        groups: usize,
+    },
+    /// The terminals that a packet to the group of a number, from 0xc000 to 0xfffe, reaches from the member that has a LID.
+    Spread {
+        fabric: usize,
+        groups: usize,
+        group: u16,
+        from: Lid,
+    },
     /// What each single failure of cables or switches costs a plan that is repaired after it on so many lanes, 1 to 15.
     Sweep {
         what: Failing,

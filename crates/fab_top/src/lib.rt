@@ -4,12 +4,14 @@
 mod change_texts;
 mod command;
 mod commands;
+mod drain_texts;
 mod engine_words;
 mod engines;
 mod fault_texts;
 mod files;
 #[cfg(test)]
 mod forged_tests;
+mod group_texts;
 mod guid_list;
 mod laned;
 mod laws;

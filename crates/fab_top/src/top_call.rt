@@ -9,7 +9,10 @@ ghost use Rattle.fab_top.specs.Ran.{Ran};
 ghost use Rattle.fab_top.specs.Usage.{usage_text};
 
 use crate::command::Command;
-use crate::commands::{certify, check, convert, cut, generate, load, repair, show, sweep, transit};
+use crate::commands::{
+    certify, check, convert, cut, drain, generate, load, mcast, repair, show, spread, sweep,
+    transit,
+};
 use crate::fault_texts::unread_text;
 use crate::outcome::{Outcome, Stop};
 use crate::outputs::{put_answer, put_outcome};
@@ -78,6 +81,14 @@ fn obey<F: Shelf>(
         Command::Gen { recipe } => generate(alloc, recipe),
         Command::Demo { recipe, engine } => demo(alloc, recipe, engine),
         Command::Transit { fabric, old, new } => transit(alloc, words, shelf, fabric, old, new),
+        Command::Drain { fabric, plan } => drain(alloc, words, shelf, fabric, plan),
+        Command::Mcast { fabric, groups } => mcast(alloc, words, shelf, fabric, groups),
+        Command::Spread {
+            fabric,
+            groups,
+            group,
+            from,
+        } => spread(alloc, words, shelf, fabric, groups, group, from),
         Command::Sweep {
             what,
             fabric,

@@ -2,11 +2,12 @@
 //! length of the words gives.
 ghost use Rattle.std.specs.Prelude.{◌≡◌, ◌≤◌, IfSome, IfOk, option_map};
 ghost use Rattle.std.specs.Bool.{then_some};
-ghost use Rattle.fab_top.specs.Words.{texts, command_of, is_file, are_two_files, has_leading_zero, number_in, named, kinds, lid_in, lanes_in, flagged_lanes, are_three_files, repair_words, transit_words, show_from_to, show_words, recipe_in, gen_words, failings, sweep_words};
+ghost use Rattle.fab_top.specs.Words.{texts, command_of, is_file, are_two_files, two_files, has_leading_zero, number_in, named, kinds, lid_in, group_in, lanes_in, flagged_lanes, are_three_files, repair_words, transit_words, show_from_to, show_words, recipe_in, gen_words, spread_words, failings, sweep_words};
 ghost use Rattle.fab_top.specs.ReadWords.{or_unknown, wants_memory};
 ghost use Rattle.fab_text.specs.Fields.{hex};
 ghost use Rattle.fab_text.specs.Readings.{Gives};
 ghost use Rattle.fab_model.specs.Topology.{lid_id};
+ghost use Rattle.fab_top.specs.declared.command.Command.TheVariants as asked;
 
 use crate::command::Command;
 use crate::engine_words::{demo_words, lanes_in, route_words};
@@ -83,6 +84,16 @@ fn lid_in(word: &str) -> Option<Lid>
     Some(Lid(lid))
 }
 
+/// A group's number, which need not be in the list.
+fn group_in(word: &str) -> Option<u16>
+    ensures { result ≡ group_in word.now }
+{
+    if word.len() != 6 {
+        return None;
+    }
+    hex_in(word)
+}
+
 /// Whether the words are two, each of which names a file.
 fn are_two_files(others: &[String]) -> bool
     ensures { result ≡ are_two_files (texts others.now) }
@@ -98,6 +109,30 @@ fn on_two_files(others: &[String], command: Command) -> Option<Command>
     ensures { result ≡ then_some (are_two_files (texts others.now)) command }
 {
     are_two_files(others).then_some(command)
+}
+
+fn cut_words(others: &[String]) -> Option<Command>
+    ensures { result ≡ two_files asked.Cut (texts others.now) }
+{
+    on_two_files(
+        others,
+        Command::Cut {
+            fabric: 1,
+            failed: 2,
+        },
+    )
+}
+
+fn mcast_words(others: &[String]) -> Option<Command>
+    ensures { result ≡ two_files asked.Mcast (texts others.now) }
+{
+    on_two_files(
+        others,
+        Command::Mcast {
+            fabric: 1,
+            groups: 2,
+        },
+    )
 }
 
 /// A lane count behind its flag.
@@ -214,6 +249,24 @@ fn transit_words(others: &[String]) -> Option<Command>
     }
 }
 
+fn spread_words(others: &[String]) -> Option<Command>
+    ensures { result ≡ spread_words (texts others.now) }
+{
+    match others {
+        [fabric, groups, group, from] => {
+            let group = group_in(group.as_str())?;
+            let from = lid_in(from.as_str())?;
+            (is_file(fabric.as_str()) && is_file(groups.as_str())).then_some(Command::Spread {
+                fabric: 1,
+                groups: 2,
+                group,
+                from,
+            })
+        }
+        _ => None,
+    }
+}
+
 fn failing_in(word: &str) -> Option<Failing>
     ensures { result ≡ named failings word.now }
 {
@@ -255,18 +308,15 @@ fn command_of(alloc: Global, words: &[String]) -> Result<Option<Command>, AllocE
         "certify" => Ok(on_two_files(others, Command::Certify { fabric: 1, plan: 2 })),
         "convert" => Ok(on_two_files(others, Command::Convert { fabric: 1, plan: 2 })),
         "repair" => Ok(repair_words(others)),
-        "cut" => Ok(on_two_files(
-            others,
-            Command::Cut {
-                fabric: 1,
-                failed: 2,
-            },
-        )),
+        "cut" => Ok(cut_words(others)),
         "show" => Ok(show_words(others)),
         "load" => Ok(on_two_files(others, Command::Load { fabric: 1, plan: 2 })),
         "gen" => Ok(gen_words(others)),
         "demo" => Ok(demo_words(alloc, others)),
         "transit" => Ok(transit_words(others)),
+        "drain" => Ok(on_two_files(others, Command::Drain { fabric: 1, plan: 2 })),
+        "mcast" => Ok(mcast_words(others)),
+        "spread" => Ok(spread_words(others)),
         "sweep" => Ok(sweep_words(others)),
         _ => Ok(None),
     }

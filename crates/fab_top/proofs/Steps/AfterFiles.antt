@@ -1,4 +1,4 @@
--- The answer after one file, a fabric, a plan of it, or a list of failed cables: what is said of what is read is said after the file.
+-- The answer after one file, a fabric, a plan of it, a list of failed cables, or a list of groups: what is said of what is read is said after the file.
 --     weaker     a weaker fact of the answer
 --     one        one answer
 --     small      a small status
@@ -9,10 +9,11 @@ use Rattle.fab_model.specs.Topology.{Topology, HasNoOwnCable}
 use Rattle.fab_model.specs.WellFormed.{IsFabric}
 use Rattle.fab_tables.specs.declared.plan.Plan.{Plan}
 use Rattle.fab_tables.specs.Fit.{PlanFits, IsTidy}
+use Rattle.fab_mcast.specs.GroupList.{Group}
 use Rattle.fab_top.specs.Answer.{Answer, refused, unread}
-use Rattle.fab_top.specs.Files.{fabric_in, plan_in, failed_in, without_failed}
-use Rattle.fab_top.specs.Seen.{Seen, Content, After, AfterFile, WithFabric, WithPlan, WithoutFailed, word_at}
-use Rattle.fab_top.proofs.ReadFits.{fabric_fits, fabric_has_no_own_cable, left_fits, left_has_no_own_cable, plan_fits}
+use Rattle.fab_top.specs.Files.{fabric_in, plan_in, failed_in, groups_in, AreKnown, without_failed}
+use Rattle.fab_top.specs.Seen.{Seen, Content, After, AfterFile, WithFabric, WithPlan, WithoutFailed, WithGroups, word_at}
+use Rattle.fab_top.proofs.ReadFits.{fabric_fits, fabric_has_no_own_cable, left_fits, left_has_no_own_cable, plan_fits, groups_known}
 
 -- the content is told
 abbrev pub IsTold : Content → Type 0
@@ -166,3 +167,24 @@ plan_small w t place rest a told small is = file_small (word_at w.words place) (
 pub plan_exists : (w : Seen) (t : Topology) (place : ℕ) (rest : Plan → Answer → Type 0) → IsFabric t → IsTold (w.content place) → ((p : Plan) → IsReadPlan t p → HasRightAnswer (rest p)) → HasRightAnswer (WithPlan w t place rest)
 plan_exists w t place rest fabric told exists =
     file_exists (word_at w.words place) (w.content place) (plan_in t) rest told (λ bytes p read. exists p (is_read_plan t (word_at w.words place) bytes p fabric read))
+
+-- ---- groups of a fabric
+
+pub groups_weaker : (w : Seen) (t : Topology) (place : ℕ) (rest other : List Group → Answer → Type 0) (a : Answer) → IsFabric t → ((groups : List Group) → AreKnown t groups → rest groups a → other groups a) →
+    WithGroups w t place rest a → WithGroups w t place other a
+groups_weaker w t place rest other a fabric weaker is =
+    file_weaker (word_at w.words place) (w.content place) (groups_in t) rest other a (λ bytes groups read. weaker groups (groups_known t (word_at w.words place) bytes groups fabric read)) is
+
+pub groups_one : (w : Seen) (t : Topology) (place : ℕ) (rest : List Group → Answer → Type 0) (a b : Answer) → IsFabric t → IsTold (w.content place) →
+    ((groups : List Group) → AreKnown t groups → rest groups a → rest groups b → a ≡ b) → WithGroups w t place rest a → WithGroups w t place rest b → a ≡ b
+groups_one w t place rest a b fabric told one first second =
+    file_one (word_at w.words place) (w.content place) (groups_in t) rest a b told (λ bytes groups read. one groups (groups_known t (word_at w.words place) bytes groups fabric read)) first second
+
+pub groups_small : (w : Seen) (t : Topology) (place : ℕ) (rest : List Group → Answer → Type 0) (a : Answer) → IsTold (w.content place) → ((groups : List Group) → rest groups a → a.status ≤ 3) →
+    WithGroups w t place rest a → a.status ≤ 3
+groups_small w t place rest a told small is = file_small (word_at w.words place) (w.content place) (groups_in t) rest a told small is
+
+pub groups_exist : (w : Seen) (t : Topology) (place : ℕ) (rest : List Group → Answer → Type 0) → IsFabric t → IsTold (w.content place) → ((groups : List Group) → AreKnown t groups → HasRightAnswer (rest groups)) →
+    HasRightAnswer (WithGroups w t place rest)
+groups_exist w t place rest fabric told exists =
+    file_exists (word_at w.words place) (w.content place) (groups_in t) rest told (λ bytes groups read. exists groups (groups_known t (word_at w.words place) bytes groups fabric read))

@@ -74,6 +74,24 @@ transit-requires-clause-old g c = (is_spelled c.args.words.now _ _ c.requires c.
 pub transit-requires-clause-new : goal.transit-requires-clause-new
 transit-requires-clause-new g c = (is_spelled c.args.words.now _ _ c.requires c.in-Transit.is).places.1.1.0
 
+pub drain-requires-clause-fabric : goal.drain-requires-clause-fabric
+drain-requires-clause-fabric g c = (is_spelled c.args.words.now _ _ c.requires c.in-Drain.is).places.0
+
+pub drain-requires-clause-plan : goal.drain-requires-clause-plan
+drain-requires-clause-plan g c = (is_spelled c.args.words.now _ _ c.requires c.in-Drain.is).places.1.0
+
+pub mcast-requires-clause-fabric : goal.mcast-requires-clause-fabric
+mcast-requires-clause-fabric g c = (is_spelled c.args.words.now _ _ c.requires c.in-Mcast.is).places.0
+
+pub mcast-requires-clause-groups : goal.mcast-requires-clause-groups
+mcast-requires-clause-groups g c = (is_spelled c.args.words.now _ _ c.requires c.in-Mcast.is).places.1.0
+
+pub spread-requires-clause-fabric : goal.spread-requires-clause-fabric
+spread-requires-clause-fabric g c = (is_spelled c.args.words.now _ _ c.requires c.in-Spread.is).places.0
+
+pub spread-requires-clause-groups : goal.spread-requires-clause-groups
+spread-requires-clause-groups g c = (is_spelled c.args.words.now _ _ c.requires c.in-Spread.is).places.1.0
+
 pub sweep-requires-clause-fabric : goal.sweep-requires-clause-fabric
 sweep-requires-clause-fabric g c = (is_spelled c.args.words.now _ _ c.requires c.in-Sweep.is).places.0
 
