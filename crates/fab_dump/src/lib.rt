@@ -27,5 +27,5 @@ mod write_blocks;
 pub use fault::PlanFault;
 pub use laws::{read_is_tidy, written_is_read, written_is_short};
 pub use read::read_plan;
-pub use write::{WriteFault, write_plan};
-pub use write_blocks::push_numbers;
+pub use write::{WriteFault, put, write_plan};
+pub use write_blocks::{push_guid, push_lid, push_numbers, push_port, push_table_head};

@@ -36,8 +36,8 @@ impl From<AllocError> for WriteFault {
     }
 }
 
-/// Puts a piece of a text.
-fn put<S: Sink>(sink: &mut S, piece: &[u8]) -> Result<(), WriteFault>
+/// Puts a piece of a text. The fault tells whether the sink failed or memory was wanted.
+pub fn put<S: Sink>(sink: &mut S, piece: &[u8]) -> Result<(), WriteFault>
     ensures { writing.PutsText piece.now (S.told sink.old) (S.told sink.new) (S.faults sink.old) (S.faults sink.new) result }
 {
     match sink.put(piece) {

@@ -11,7 +11,7 @@ ghost use Rattle.fab_dump.specs.BlockValues.{value_text, numbers_of, AreOfSwitch
 use crate::rows::ROW_LIDS;
 use fab_model::{ChannelId, Fabric, Lid, SwitchId, SwitchRow};
 use fab_tables::{Lanes, PairRow, Plan, Tables};
-use fab_text::{push_dec, push_hex4, push_hex16, push_port3, push_two};
+use fab_text::{push, push_dec, push_hex4, push_hex16, push_port3, push_two};
 use std::alloc::AllocError;
 
 /// What the rows of a block tell of each LID.
@@ -23,34 +23,27 @@ enum BlockValues<'a> {
     Levels(&'a Lanes),
 }
 
-/// Appends bytes.
-fn push(text: &mut Vec<u8>, bytes: &[u8]) -> Result<(), AllocError>
-    ensures { OnOk result (text.new.items ≡ text.old.items ++ bytes.now) }
-{
-    text.extend_from_slice(bytes)
-}
-
-/// Appends a LID.
+/// Appends a LID: `0x` and four hexadecimal digits.
 #[tactic(auto, unfolding(crate::specs::Writing::hex4))]
-fn push_lid(text: &mut Vec<u8>, lid: Lid) -> Result<(), AllocError>
+pub fn push_lid(text: &mut Vec<u8>, lid: Lid) -> Result<(), AllocError>
     ensures { OnOk result (text.new.items ≡ text.old.items ++ writing.hex4 lid.0) }
 {
     push(text, b"0x")?;
     push_hex4(text, lid.0)
 }
 
-/// Appends a GUID.
+/// Appends a GUID: `0x` and sixteen hexadecimal digits.
 #[tactic(auto, unfolding(crate::specs::Writing::hex16))]
-fn push_guid(text: &mut Vec<u8>, guid: u64) -> Result<(), AllocError>
+pub fn push_guid(text: &mut Vec<u8>, guid: u64) -> Result<(), AllocError>
     ensures { OnOk result (text.new.items ≡ text.old.items ++ writing.hex16 guid) }
 {
     push(text, b"0x")?;
     push_hex16(text, guid)
 }
 
-/// Appends a port.
+/// Appends a port: three decimal digits.
 #[tactic(auto, unfolding(crate::specs::Writing::port3))]
-fn push_port(text: &mut Vec<u8>, port: u8) -> Result<(), AllocError>
+pub fn push_port(text: &mut Vec<u8>, port: u8) -> Result<(), AllocError>
     ensures { OnOk result (text.new.items ≡ text.old.items ++ writing.port3 port) }
 {
     push_port3(text, port)
@@ -140,9 +133,13 @@ fn push_switch(text: &mut Vec<u8>, row: &SwitchRow) -> Result<(), AllocError>
     push(text, b"):")
 }
 
-/// Appends the line that opens a table block.
+/// Appends the line that opens the table block of a switch, without a line feed.
 #[tactic(auto, unfolding(crate::specs::Writing::table_head_text))]
-fn push_table_head(text: &mut Vec<u8>, fabric: &Fabric, row: &SwitchRow) -> Result<(), AllocError>
+pub fn push_table_head(
+    text: &mut Vec<u8>,
+    fabric: &Fabric,
+    row: &SwitchRow,
+) -> Result<(), AllocError>
     requires { 0 < length (lids_of fabric.now) }
     ensures { OnOk result (text.new.items ≡ text.old.items ++ writing.table_head_text (lids_of fabric.now) row.now) }
 {

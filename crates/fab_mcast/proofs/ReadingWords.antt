@@ -10,7 +10,7 @@ use Rattle.std.proofs.lemmas.Option.{same_Some}
 use Rattle.fab_text.specs.Digits.{number_spelled}
 use Rattle.fab_text.specs.Fields.{all_read, with_first, hex, words_of}
 use Rattle.fab_text.specs.Fronts.{hex_at}
-use Rattle.fab_repair.proofs.WordNumbers.{ends_at, hex_is}
+use Rattle.fab_text.proofs.WordNumbers.{ends_at, hex_is}
 use Rattle.fab_mcast.specs.GroupList.{lid_of}
 
 -- ---- hexadecimal numbers of at most four digits

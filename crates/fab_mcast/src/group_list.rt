@@ -56,7 +56,7 @@ fn hex_in(word: &[u8]) -> Option<u16>
 }
 
 /// The number that a word of decimal digits is, where it is at most 65,535.
-#[tactic(auto, using(fab_repair::proofs::WordNumbers::dec_is))]
+#[tactic(auto, using(fab_text::proofs::WordNumbers::dec_is))]
 fn dec_in(word: &[u8]) -> Option<u16>
     ensures { result ≡ dec_up_to 65535 word.now }
 {

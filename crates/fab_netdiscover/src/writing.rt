@@ -13,16 +13,9 @@ use fab_model::{
     AdapterRow, ChannelRow, Desc, Fabric, Lid, NodeKind, SwitchId, SwitchRow, TerminalId,
     TerminalRow,
 };
-use fab_text::{push_dec, push_hex16};
+use fab_text::{push, push_dec, push_hex16};
 use std::alloc::{AllocError, Global};
 use std::collections::HashMap;
-
-/// Appends bytes.
-fn push(text: &mut Vec<u8>, bytes: &[u8]) -> Result<(), AllocError>
-    ensures { OnOk result (text.new.items ≡ text.old.items ++ bytes.now) }
-{
-    text.extend_from_slice(bytes)
-}
 
 /// Appends a node's name.
 #[tactic(auto, unfolding(crate::specs::Writing::name_text, crate::specs::Writing::guid16))]

@@ -4,4 +4,5 @@ pub mod Spelled
 pub mod SpelledFields
 pub mod LinesMet
 pub mod Words
+pub mod WordNumbers
 pub mod Examples

@@ -21,4 +21,4 @@ pub use fronts::{
     Line, Span, is_blank, next_line, read_dec, read_desc, read_hex, read_quoted, word,
 };
 pub use laws::lines_are_met;
-pub use pushes::{push_dec, push_hex4, push_hex16, push_port3, push_two};
+pub use pushes::{push, push_dec, push_hex4, push_hex16, push_port3, push_two};

@@ -1,4 +1,4 @@
-//! Numbers as digits, appended to a text.
+//! Bytes, and numbers as digits, appended to a text.
 //!
 //! The digits are made in a buffer of fixed size and appended at once, so that a call that is refused memory
 //! leaves the text as it was. Time and memory: the digits.
@@ -7,6 +7,13 @@ ghost use Rattle.std.specs.Fmt.{digit_glyph};
 ghost use Rattle.fab_text.specs.Digits.{last_digits};
 
 use std::alloc::AllocError;
+
+/// Appends bytes.
+pub fn push(to: &mut Vec<u8>, bytes: &[u8]) -> Result<(), AllocError>
+    ensures { OnOk result (to.new.items ≡ to.old.items ++ bytes.now) }
+{
+    to.extend_from_slice(bytes)
+}
 
 /// The digit of a value, in lower case.
 fn digit(value: u8) -> u8

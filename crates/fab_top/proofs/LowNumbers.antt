@@ -8,7 +8,7 @@ use Rattle.fab_text.specs.Digits.{number_spelled}
 use Rattle.fab_text.specs.Fields.{dec_up_to, hex}
 use Rattle.fab_text.specs.Fronts.{dec_at, hex_at}
 use Rattle.fab_dump.proofs.Reading.FieldNumbers.{not_too_great, hex_fits}
-use Rattle.fab_repair.proofs.WordNumbers.{at_most, ends_at, dec_is, hex_is}
+use Rattle.fab_text.proofs.WordNumbers.{at_most, ends_at, dec_is, hex_is}
 use Rattle.fab_top.specs.Words.{has_leading_zero, number_in}
 
 -- what is not refused for a leading zero

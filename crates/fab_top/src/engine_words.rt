@@ -77,7 +77,7 @@ pub(crate) fn lanes_in(word: &str) -> Option<u8>
 }
 
 /// A GUID: `0x` and 1 to 16 hexadecimal digits.
-#[tactic(auto, using(fab_repair::proofs::WordNumbers::hex_is))]
+#[tactic(auto, using(fab_text::proofs::WordNumbers::hex_is))]
 fn guid_in(word: &str) -> Option<u64>
     ensures { result ≡ hex 16 word.now }
 {

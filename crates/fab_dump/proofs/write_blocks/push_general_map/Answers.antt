@@ -13,6 +13,6 @@ pub returns : goal.returns
 returns c =
     IfOk-equal c.push-2.result _ _ _ c.push-2.ensures
     (two_lines (guid_head_text map_head c.args.guid) (lanes_text (general_map c.args.lanes.now c.args.switch.0)) c.args.text.now.items
-    c.push_guid_head.new.text.items c.push.new.text.items c.push_lanes.new.text.items (c.push_lanes.new.text.items ++ 10 ∷ [])
+    c.push_guid_head.new.text.items c.push.new.to.items c.push_lanes.new.text.items (c.push_lanes.new.text.items ++ 10 ∷ [])
     c.in_ok-push_guid_head.ensures c.in_ok-push.ensures
-    (c.in_ok-push_lanes.ensures ∙ ap (λ (lanes : List ℕ). c.push.new.text.items ++ lanes_text lanes) c.general_map.ensures) refl)
+    (c.in_ok-push_lanes.ensures ∙ ap (λ (lanes : List ℕ). c.push.new.to.items ++ lanes_text lanes) c.general_map.ensures) refl)

@@ -16,7 +16,7 @@ pub loop-next-preserved : goal.loop-next-preserved
 loop-next-preserved c =
     let there = of_this c.args.switch.0 (slice_get c.args.lanes.now.pairs c.loop-next.next) c.in-Some.row c.in-Some.ensures in
     record {
-      so_far = pair_added c.args.lanes.now.pairs c.args.switch.0 c.loop-next.next c.in-Some.row there c.args.text.now.items c.loop-next.text.items c.push_pair.new.text.items c.push.new.text.items c.loop-next.invariant.so_far c.in_ok-push_pair.ensures c.in_ok-push.ensures;
+      so_far = pair_added c.args.lanes.now.pairs c.args.switch.0 c.loop-next.next c.in-Some.row there c.args.text.now.items c.loop-next.text.items c.push_pair.new.text.items c.push.new.to.items c.loop-next.invariant.so_far c.in_ok-push_pair.ensures c.in_ok-push.ensures;
       around = one_on c.args.lanes.now.pairs c.args.switch.0 c.loop-next.next c.in-Some.row there c.loop-next.invariant.around;
     }
 

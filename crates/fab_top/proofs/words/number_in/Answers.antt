@@ -1,7 +1,7 @@
 use Rattle.std.proofs.Common.{◌≡◌, ◌∙◌, ◌<◌, ◌^◌, ℕ, Bool, false, List, length, Option, Some, None, sym, ap, arith, eq-eqb}
 use Rattle.std.specs.Prelude.{◌==◌, if◌then◌else◌}
 use Rattle.std.proofs.lemmas.Bool.{le-leb, ne_eqb}
-use Rattle.fab_repair.proofs.WordNumbers.{at_most, ends_at}
+use Rattle.fab_text.proofs.WordNumbers.{at_most, ends_at}
 use Rattle.fab_text.specs.Fronts.{dec_at}
 use Rattle.fab_top.specs.Words.{has_leading_zero, number_in}
 use Rattle.fab_top.proofs.LowNumbers.{number_is}
