@@ -11,6 +11,7 @@ use crate::level_byte::{NO_LEVEL, byte_of, level_of};
 use crate::pairs::{PAIRS, key_of_row, pair_in, pairs_fit, search_in};
 use fab_model::{ChannelId, Fabric, Lid, SwitchId};
 use std::alloc::{AllocError, Global};
+use std::collections::VecDeque;
 use std::marker::Model;
 
 /// The lane by which nothing but management goes.
@@ -50,7 +51,8 @@ pub struct Lanes {
     levels: Vec<u8>,
     // switch by switch, the lane of each of the 16 levels
     general: Vec<u8>,
-    pair_rows: Vec<PairRow>,
+    // by (switch, from port, to port)
+    pair_rows: VecDeque<PairRow>,
     // channel by channel, the number of each of the 15 data lanes
     numbers: Vec<u32>,
 }
@@ -86,7 +88,7 @@ impl Lanes {
             columns,
             levels,
             general,
-            pair_rows: Vec::new(alloc),
+            pair_rows: VecDeque::new(alloc),
             numbers,
         })
     }
@@ -231,7 +233,7 @@ impl Lanes {
             columns: self.columns.copy(alloc)?,
             levels: Vec::from_slice(alloc, &self.levels)?,
             general: Vec::from_slice(alloc, &self.general)?,
-            pair_rows: Vec::from_slice(alloc, &self.pair_rows)?,
+            pair_rows: self.pair_rows.clone()?,
             numbers: Vec::from_slice(alloc, &self.numbers)?,
         })
     }

@@ -8,6 +8,7 @@ ghost use Rattle.fab_tables.specs.Fit.{PairFits};
 
 use crate::lanes::PairRow;
 use fab_model::{Fabric, SwitchId};
+use std::collections::VecDeque;
 
 /// How many pairs may have a map.
 pub(crate) const PAIRS: usize = 65536;
@@ -26,20 +27,20 @@ pub(crate) fn key_of_row(row: &PairRow) -> u64
 }
 
 // The place of the first row whose key isn't below this one.
-fn place_in(rows: &[PairRow], key: u64) -> usize
-    requires { IsStrictlyIncreasing (map pair_key rows.now) }
-    ensures within { result ≤ length rows.now }
-    ensures below { AllWithin (λ row. pair_key row < key) rows.now 0 result }
-    ensures above { AllWithin (λ row. key ≤ pair_key row) rows.now result (length rows.now) }
+fn place_in(rows: &VecDeque<PairRow>, key: u64) -> usize
+    requires { IsStrictlyIncreasing (map pair_key rows.now.items) }
+    ensures within { result ≤ length rows.now.items }
+    ensures below { AllWithin (λ row. pair_key row < key) rows.now.items 0 result }
+    ensures above { AllWithin (λ row. key ≤ pair_key row) rows.now.items result (length rows.now.items) }
 {
     rows.partition_point(|row| key_of_row(row) < key)
 }
 
 /// The place of the row of this key, or else the place at which it would stand.
-pub(crate) fn search_in(rows: &[PairRow], key: u64) -> Result<usize, usize>
-    requires { IsStrictlyIncreasing (map pair_key rows.now) }
-    ensures found { IfOk result (StandsAt rows.now key) }
-    ensures missing { IfErr result (GoesTo rows.now key) }
+pub(crate) fn search_in(rows: &VecDeque<PairRow>, key: u64) -> Result<usize, usize>
+    requires { IsStrictlyIncreasing (map pair_key rows.now.items) }
+    ensures found { IfOk result (StandsAt rows.now.items key) }
+    ensures missing { IfErr result (GoesTo rows.now.items key) }
 {
     let place = place_in(rows, key);
     match rows.get(place) {
@@ -50,13 +51,13 @@ pub(crate) fn search_in(rows: &[PairRow], key: u64) -> Result<usize, usize>
 
 /// The row of these ports.
 pub(crate) fn pair_in(
-    rows: &[PairRow],
+    rows: &VecDeque<PairRow>,
     switch: SwitchId,
     from_port: u8,
     to_port: u8,
 ) -> Option<&PairRow>
-    requires { IsStrictlyIncreasing (map pair_key rows.now) }
-    ensures { MatchOption result (find (is_pair switch.0 from_port to_port) rows.now ≡ None) (λ row. find (is_pair switch.0 from_port to_port) rows.now ≡ Some row.now) }
+    requires { IsStrictlyIncreasing (map pair_key rows.now.items) }
+    ensures { MatchOption result (find (is_pair switch.0 from_port to_port) rows.now.items ≡ None) (λ row. find (is_pair switch.0 from_port to_port) rows.now.items ≡ Some row.now) }
 {
     match search_in(rows, key_of(switch, from_port, to_port)) {
         Ok(place) => Some(&rows[place]),
@@ -65,8 +66,8 @@ pub(crate) fn pair_in(
 }
 
 /// Whether the ports of each pair are ports of its switch.
-pub(crate) fn pairs_fit(rows: &[PairRow], fabric: &Fabric) -> bool
-    ensures { IsTrue result ↔ All (PairFits fabric.now) rows.now }
+pub(crate) fn pairs_fit(rows: &VecDeque<PairRow>, fabric: &Fabric) -> bool
+    ensures { IsTrue result ↔ All (PairFits fabric.now) rows.now.items }
 {
     rows.iter().all(|row| pair_fits(row, fabric))
 }

@@ -16,7 +16,7 @@ use Rattle.fab_tables.proofs.lanes.Lanes.set_pair.Goals.{in-Ok-insert, in-Err-in
 pub invariant_of-self : goal.invariant_of-self
 invariant_of-self c =
     let l : LaneTables = lane_tables c.self.inside in
-    let at = subst (λ rows. StandsAt rows c.key_of_row.result c.in-Ok.place) c.deref.ensures.value c.in-Ok.ensures.found in
+    let at = c.in-Ok.ensures.found in
     let row : IsPairRow l.switches c.args.row
     = record { switch = omega (arith, c.requires.switch, ap (λ (k : LaneTables). k.switches) c.self.view_is); from_port = omega arith; to_port = omega arith; levels = omega arith; lanes = c.requires.map } in
     pairs_kept l c.self.invariant (set l.pairs c.in-Ok.place c.args.row) (pair_set_keys l.pairs c.self.invariant.in_order c.key_of_row.result c.in-Ok.place at c.args.row (sym c.key_of_row.ensures))
@@ -27,7 +27,7 @@ invariant_of-self-in-Err-2 c =
     let l : LaneTables = lane_tables c.self.inside in
     let row : IsPairRow l.switches c.args.row
     = record { switch = omega (arith, c.requires.switch, ap (λ (k : LaneTables). k.switches) c.self.view_is); from_port = omega arith; to_port = omega arith; levels = omega arith; lanes = c.requires.map } in
-    let to = subst (λ rows. GoesTo rows c.key_of_row.result c.in-Err.field-0) c.deref.ensures.value c.in-Err.ensures.missing in
+    let to = c.in-Err.ensures.missing in
     let placed = insert l.pairs c.in-Err.field-0 c.args.row in
     elim c.match-insert.branch [
       | in-Ok-insert w ↦
@@ -36,20 +36,20 @@ invariant_of-self-in-Err-2 c =
           (omega (arith, length-insert l.pairs c.in-Err.field-0 c.args.row to.within, c.if-len-ge-PAIRS.false, c.len.ensures, c.self.inside.pair_rows.ok))
           (All-append (IsPairRow l.switches) (take c.in-Err.field-0 l.pairs) (c.args.row ∷ drop c.in-Err.field-0 l.pairs) (All-take (IsPairRow l.switches) c.in-Err.field-0 l.pairs c.self.invariant.pairs)
           (All-cons (IsPairRow l.switches) c.args.row (drop c.in-Err.field-0 l.pairs) row (All-drop (IsPairRow l.switches) c.in-Err.field-0 l.pairs c.self.invariant.pairs))))
-      | in-Err-insert w ↦ subst (λ rows. AreLaneTables (record l { pairs = rows })) (sym w.in-Err-insert.ensures.items) c.self.invariant
+      | in-Err-insert w ↦ subst (λ rows. AreLaneTables (record l { pairs = rows })) (sym w.in-Err-insert.ensures.unchanged.0) c.self.invariant
     ]
 
 pub returns-in-Ok-clause-ok : goal.returns-in-Ok-clause-ok
 returns-in-Ok-clause-ok c =
     let l : LaneTables = lane_tables c.self.inside in
-    let at = subst (λ rows. StandsAt rows c.key_of_row.result c.in-Ok.place) c.deref.ensures.value c.in-Ok.ensures.found in
+    let at = c.in-Ok.ensures.found in
     ap (λ rows. record l { pairs = rows }) (pair_set l.pairs c.self.invariant.in_order c.key_of_row.result c.in-Ok.place at c.args.row (sym c.key_of_row.ensures))
     ∙ ap (λ k. with_pair k c.args.row) c.self.view_is
 
 pub returns-in-Err-clause-too_many : goal.returns-in-Err-clause-too_many
 returns-in-Err-clause-too_many c =
     let l : LaneTables = lane_tables c.self.inside in
-    let to = subst (λ rows. GoesTo rows c.key_of_row.result c.in-Err.field-0) c.deref.ensures.value c.in-Err.ensures.missing in
+    let to = c.in-Err.ensures.missing in
     λ e room. elim room [
       | inl there ↦
           pair_is_nowhere l.pairs c.self.invariant.in_order c.key_of_row.result c.in-Err.field-0 to
@@ -60,7 +60,7 @@ returns-in-Err-clause-too_many c =
 pub returns-after-insert-clause-ok : goal.returns-after-insert-clause-ok
 returns-after-insert-clause-ok c =
     let l : LaneTables = lane_tables c.self.inside in
-    let to = subst (λ rows. GoesTo rows c.key_of_row.result c.in-Err.field-0) c.deref.ensures.value c.in-Err.ensures.missing in
+    let to = c.in-Err.ensures.missing in
     elim c.match-insert.branch [
       | in-Ok-insert w ↦
           subst (λ r. OnOk r (record l { pairs = c.insert.new.self.items } ≡ with_pair c.args.self.now c.args.row)) (sym w.result-is)
