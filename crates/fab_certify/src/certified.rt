@@ -13,7 +13,7 @@ ghost use Rattle.fab_tables.specs.Certified.{IsCertified};
 ghost use Rattle.fab_tables.specs.Starts.{AreStarts, AreAllStarts};
 ghost use Rattle.fab_tables.specs.Judged.{IsRoomFor};
 ghost use Rattle.fab_certify.specs.Numbered.{IsSound};
-ghost use Rattle.fab_certify.specs.Certificate.{IsCertificate, IsCertificateBy, HasNoPair, IsPlainCertificate};
+ghost use Rattle.fab_certify.specs.Certificate.{IsCertificate, IsCertificateBy, IsSoundPlan, HasNoPair, IsPlainCertificate};
 
 use crate::collecting::collect;
 use crate::numbers::set_numbers;
@@ -75,6 +75,28 @@ pub fn certify(alloc: Global, fabric: &Fabric, plan: &Plan) -> Result<Certified,
         fabric,
         tables,
         lanes,
+        &components,
+        &starts,
+        &mut marks,
+    )
+}
+
+/// The first fault of a plan that no numbers can mend. It takes the time of certifying the plan without its
+/// dependencies. An error comes only for want of memory.
+pub fn refusal(alloc: Global, fabric: &Fabric, plan: &Plan) -> Result<Option<Verdict>, AllocError>
+    requires { PlanFits fabric.now plan.now }
+    ensures { IfOk result (λ fault. MatchOption fault (IsSoundPlan fabric.now plan.now) (λ verdict. IsCertificate fabric.now plan.now (Certified.Refused verdict))) }
+{
+    let components = Components::of(alloc, fabric)?;
+    let starts = Starts::of(alloc, fabric)?;
+    let mut marks = Marks::new(alloc, fabric)?;
+    let Plan { tables, lanes } = plan.copy(alloc)?;
+    let lanes = lanes_read(alloc, fabric, lanes, &components, starts.all())?;
+    first_fault(
+        alloc,
+        fabric,
+        &tables,
+        &lanes,
         &components,
         &starts,
         &mut marks,

@@ -10,7 +10,7 @@ mod laws;
 mod numbers;
 mod one_lane;
 
-pub use certified::{Certified, certify, lanes_read};
+pub use certified::{Certified, certify, lanes_read, refusal};
 pub use collecting::node_of;
 pub use dependencies::Dependencies;
 pub use fab_rings::{Graph, Ring, first_ring, levels};

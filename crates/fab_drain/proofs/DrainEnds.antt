@@ -10,7 +10,8 @@ use Rattle.fab_tables.specs.LaneTables.{LaneTables}
 use Rattle.fab_tables.specs.Reading.{count_read}
 use Rattle.fab_drain.specs.declared.state.Drained.{Drained}
 use Rattle.fab_drain.specs.declared.state.Drained.TheVariants.{Empty, Waiting}
-use Rattle.fab_drain.specs.Loads.{Load, IsLoad, IsAdmitted, hops_left}
+use Rattle.fab_certify.specs.Certificate.{IsSoundPlan}
+use Rattle.fab_drain.specs.Loads.{Load, IsLoad, hops_left}
 use Rattle.fab_drain.specs.Drains.{Drains, IsStill, IsEmpty, IsWaitingRing, EndsAs}
 use Rattle.fab_drain.specs.Laws.{CertifiedDrains}
 use Rattle.fab_drain.proofs.Endings.{drains_keep, empty_moves_all_hops, certified_loads_drain}
@@ -22,7 +23,7 @@ pub record IsEnd (t : Topology) (p : Plan) (old new : Load) (answer : Drained) :
   pub certified : CertifiedDrains t p old answer
   pub load : IsLoad t p new
 
-module _ (t : Topology) (p : Plan) (old new : Load) (fits : PlanFits t p) (admitted : IsAdmitted t p) (good : IsLoad t p old) where
+module _ (t : Topology) (p : Plan) (old new : Load) (fits : PlanFits t p) (admitted : IsSoundPlan t p) (good : IsLoad t p old) where
   pub keeps : (moves : ℕ) → Drains t p moves old new → IsLoad t p new
   keeps moves d = drains_keep t p good.fabric fits admitted moves old new good d
 

@@ -8,7 +8,8 @@ use Rattle.fab_tables.specs.declared.verdict.VirtualChannel.{VirtualChannel}
 use Rattle.fab_tables.specs.Fit.{PlanFits}
 use Rattle.fab_drain.specs.declared.state.Drained.{Drained}
 use Rattle.fab_drain.specs.declared.state.Drained.TheVariants.{Empty, Waiting}
-use Rattle.fab_drain.specs.Loads.{Load, IsLoad, IsAdmitted, packet_count, hops_left}
+use Rattle.fab_certify.specs.Certificate.{IsSoundPlan}
+use Rattle.fab_drain.specs.Loads.{Load, IsLoad, packet_count, hops_left}
 use Rattle.fab_drain.specs.Moves.{advanced, MayMove}
 use Rattle.fab_drain.specs.Drains.{IsLeastMover, Drains, IsStill, IsEmpty, IsWaitingRing, EndsAs}
 use Rattle.fab_drain.specs.Laws.{EmptyMovesAllHops, OneDraining, LoadsEnd, CertifiedLoadsDrain}
@@ -20,7 +21,7 @@ use Rattle.fab_drain.proofs.Waiting.{one_mover, mover_or_still, waiting_ring, on
 
 -- ---- moves one after the other
 
-module _ (t : Topology) (p : Plan) (is : IsFabric t) (fits : PlanFits t p) (admitted : IsAdmitted t p) where
+module _ (t : Topology) (p : Plan) (is : IsFabric t) (fits : PlanFits t p) (admitted : IsSoundPlan t p) where
   pub drains_keep : (n : ℕ) (old new : Load) → IsLoad t p old → Drains t p n old new → IsLoad t p new
   drains_keep zero old new good d = subst (λ load. IsLoad t p load) d good
   drains_keep (suc n) old new good d = drains_keep n (advanced t p old d.0).1 new (moves_keep_loads t p old d.0 is fits admitted good) d.2
@@ -71,7 +72,7 @@ one_more : Drained → Drained
 one_more (Empty moves) = Empty (suc moves)
 one_more (Waiting moves ring) = Waiting (suc moves) ring
 
-module _ (t : Topology) (p : Plan) (is : IsFabric t) (fits : PlanFits t p) (admitted : IsAdmitted t p) where
+module _ (t : Topology) (p : Plan) (is : IsFabric t) (fits : PlanFits t p) (admitted : IsSoundPlan t p) where
   abbrev Ends : Load → Type 0
   Ends load = (answer : Drained) × (new : Load) × EndsAs t p load new answer
 

@@ -19,7 +19,7 @@ use Rattle.fab_tables.specs.declared.verdict.VirtualChannel.{VirtualChannel}
 use Rattle.fab_tables.specs.Dependencies.{node_of}
 use Rattle.fab_tables.specs.First.{IsBefore}
 use Rattle.fab_tables.specs.Reading.{count_read}
-use Rattle.fab_tables.proofs.Faults.Firsts.{order}
+use Rattle.fab_tables.proofs.Faults.Firsts.{order, before_itself, before_through, not_sooner}
 use Rattle.fab_tables.proofs.Joined.ConnectedDecided.{connected_to_decided}
 use Rattle.fab_tables.proofs.Joined.Lids.{connected_in_use}
 use Rattle.fab_tables.proofs.Verdicts.CertifiedLaws.{none_some}
@@ -31,30 +31,15 @@ use Rattle.fab_certify.proofs.Exists.Listed.{Listed, some_listed, images_listed}
 use Rattle.fab_drain.specs.declared.packet.Packet.{Packet}
 use Rattle.fab_drain.specs.declared.state.Filled.{Filled}
 use Rattle.fab_drain.specs.declared.state.Filled.TheVariants.{Full, Refused}
-use Rattle.fab_drain.specs.Loads.{hops_of, stand_of, IsPacket, Load, Loaded, loaded_at, loaded_with, channel_of_cell, StandsOn, IsAdmitted}
+use Rattle.fab_certify.specs.Certificate.{IsSoundPlan}
+use Rattle.fab_drain.specs.Loads.{hops_of, stand_of, IsPacket, Load, Loaded, loaded_at, loaded_with, channel_of_cell, StandsOn}
 use Rattle.fab_drain.specs.Fills.{IsCandidate, key_of, GoesFurther, IsPlaced, IsFilling, IsFilled}
 use Rattle.fab_drain.specs.Laws.{FillingExists}
 use Rattle.fab_drain.proofs.Cells.{read_there, read_past, channel_is, node_below, one_channel}
 use Rattle.fab_drain.proofs.HopCounts.{hops_of_short}
-use Rattle.fab_drain.proofs.Offering.{not_before_itself}
 use Rattle.fab_drain.proofs.PacketHops.{hop_there}
 
 -- ---- the first packet of a list
-
-before_through : (p q r : List ℕ) → IsBefore p q → IsBefore q r → IsBefore p r
-before_through [] [] r h k = absurd h
-before_through [] (n ∷ ns) [] h k = absurd k
-before_through [] (n ∷ ns) (o ∷ os) h k = tt
-before_through (m ∷ ms) [] r h k = absurd h
-before_through (m ∷ ms) (n ∷ ns) [] h k = absurd k
-before_through (m ∷ ms) (n ∷ ns) (o ∷ os) (inl a) (inl b) = inl (omega (arith, a, b))
-before_through (m ∷ ms) (n ∷ ns) (o ∷ os) (inl a) (inr b) = inl (omega (arith, a, b.0))
-before_through (m ∷ ms) (n ∷ ns) (o ∷ os) (inr a) (inl b) = inl (omega (arith, a.0, b))
-before_through (m ∷ ms) (n ∷ ns) (o ∷ os) (inr a) (inr b) = inr (a.0 ∙ b.0, before_through ms ns os a.1 b.1)
-
-not_sooner : (p q : List ℕ) → (p ≡ q) ⊎ IsBefore q p → ¬ IsBefore p q
-not_sooner p q (inl same) before = not_before_itself q (subst (λ k. IsBefore k q) same before)
-not_sooner p q (inr after) before = not_before_itself p (before_through p q p before after)
 
 module _ (t : Topology) (P : Packet → Type 0) where
   abbrev FirstIn : List Packet → Type 0
@@ -73,7 +58,7 @@ module _ (t : Topology) (P : Packet → Type 0) where
     )
 
     not_itself : (r : Packet) → x ≡ r → ¬ IsBefore (key_of t r) (key_of t x)
-    not_itself r e before = not_before_itself (key_of t x) (subst (λ q. IsBefore (key_of t q) (key_of t x)) (sym e) before)
+    not_itself r e before = before_itself (key_of t x) (subst (λ q. IsBefore (key_of t q) (key_of t x)) (sym e) before)
 
     chosen : P x → FirstIn xs ⊎ NoneIn xs → FirstIn (x ∷ xs)
     chosen p (inr none) = (x, p, λ r has q before. elim (first_or_later x xs r has) [ inl e ↦ not_itself r e before | inr there ↦ none r there q ])
@@ -180,7 +165,7 @@ module _ (t : Topology) (p : Plan) (is : IsFabric t) where
 
   -- ---- the load
 
-  module _ (admitted : IsAdmitted t p) where
+  module _ (admitted : IsSoundPlan t p) where
     abbrev count : ℕ
     count = count_read p.lanes
 
@@ -221,7 +206,7 @@ filling_exists t p is fits = go certificate.0 certificate.1
     certificate : (answer : Certified) × IsCertificate t p answer
     certificate = certificate_exists t p is fits
 
-    full : IsAdmitted t p → (x : Filled) × IsFilled t p x
+    full : IsSoundPlan t p → (x : Filled) × IsFilled t p x
     full admitted = (Full (load t p is admitted), (admitted, filling t p is admitted))
 
     go : (answer : Certified) → IsCertificate t p answer → (x : Filled) × IsFilled t p x

@@ -28,7 +28,8 @@ use Rattle.fab_certify.specs.declared.certified.Certified.{Certified}
 use Rattle.fab_certify.specs.declared.certified.Certified.TheVariants as certified
 use Rattle.fab_certify.specs.Certificate.{IsCertificate}
 use Rattle.fab_drain.specs.declared.packet.Packet.{Packet}
-use Rattle.fab_drain.specs.Loads.{hops_of, hops_of_row, stand_of, IsPacket, Load, Loaded, IsPlace, loaded_at, loaded_with, StandsOn, IsAdmitted}
+use Rattle.fab_certify.specs.Certificate.{IsSoundPlan}
+use Rattle.fab_drain.specs.Loads.{hops_of, hops_of_row, stand_of, IsPacket, Load, Loaded, IsPlace, loaded_at, loaded_with, StandsOn}
 use Rattle.fab_drain.specs.Fills.{IsCandidate, key_of, key_of_row, IsPlaced, IsFilling}
 use Rattle.fab_drain.specs.Offers.{offered_at, IsEarlyCandidate, IsPlacedEarly, IsFilledBefore, before_start, behind_start, behind_lids, at_position}
 use Rattle.fab_drain.proofs.Cells.{read_there, read_past}
@@ -74,7 +75,7 @@ terminal_found t start k row found at =
     let parts : (eqb row.switch.0 start.switch.0 ≡ true) × (eqb row.port start.port ≡ true) = and_parts (eqb row.switch.0 start.switch.0) (eqb row.port start.port) cabled in
     ap (λ s. record { switch = record { 0 = s }; port = row.port }) (eqb-true row.switch.0 start.switch.0 parts.0) ∙ ap (λ n. record { switch = start.switch; port = n }) (eqb-true row.port start.port parts.1)
 
-module _ (t : Topology) (p : Plan) (admitted : IsAdmitted t p) (terminal : TerminalId) (row : TerminalRow) (at : slice_get t.terminals terminal.0 ≡ Some row) (lid : Lid) (path : IsPath t row lid.0) where
+module _ (t : Topology) (p : Plan) (admitted : IsSoundPlan t p) (terminal : TerminalId) (row : TerminalRow) (at : slice_get t.terminals terminal.0 ≡ Some row) (lid : Lid) (path : IsPath t row lid.0) where
   abbrev pub packet_at : ℕ → Packet
   packet_at k = record { terminal = terminal; lid = lid; position = k }
 
@@ -326,10 +327,3 @@ nothing_filled t p load is count cells = record {
       | inl low ↦ read_there load v low ∙ ap (λ (xs : List (Option Loaded)). slice_index_or xs (node_of load.count v) None) cells ∙ all_none (length t.channels * load.count) (node_of load.count v)
       | inr past ↦ read_past load v past
     ]
-
--- ---- plans that aren't refused
-
-pub admitted_by : (t : Topology) (p : Plan) (answer : Certified) → IsCertificate t p answer → ((fault : Verdict) → answer ≡ certified.Refused fault → ⊥) → IsAdmitted t p
-admitted_by t p (certified.Refused fault) c other = absurd (other fault refl)
-admitted_by t p (certified.RingUsed ring) c other = (c.0, c.1, c.2.0)
-admitted_by t p (certified.Numbers new) c other = (c.0, c.1, c.2.0)

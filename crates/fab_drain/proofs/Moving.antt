@@ -13,7 +13,8 @@ use Rattle.fab_tables.specs.Dependencies.{node_of}
 use Rattle.fab_tables.specs.Reading.{count_read}
 use Rattle.fab_tables.proofs.Verdicts.CertifiedLaws.{none_some}
 use Rattle.fab_drain.specs.declared.packet.Packet.{Packet}
-use Rattle.fab_drain.specs.Loads.{hops_of, stand_of, next_of, IsPacket, Load, Loaded, IsPlace, loaded_at, loaded_with, with_cell, emptied, hops_in_cell, hops_left, StandsOn, IsLoad, IsAdmitted}
+use Rattle.fab_certify.specs.Certificate.{IsSoundPlan}
+use Rattle.fab_drain.specs.Loads.{hops_of, stand_of, next_of, IsPacket, Load, Loaded, IsPlace, loaded_at, loaded_with, with_cell, emptied, hops_in_cell, hops_left, StandsOn, IsLoad}
 use Rattle.fab_drain.specs.Moves.{one_on, went_to, moved_on, moved_from, IsMove}
 use Rattle.fab_drain.specs.Laws.{MovesKeepLoads, MovesTakeOneHop, EmptiedIsLoad}
 use Rattle.fab_drain.proofs.Setting.{sum-set}
@@ -53,7 +54,7 @@ emptied_is_load t p load good = record {
     ]
 
 -- a packet has a cell to stand on
-pub stand_place : (t : Topology) (p : Plan) (load : Load) (packet : Packet) (v : VirtualChannel) → IsAdmitted t p → IsLoad t p load → IsPacket t p packet → stand_of t p packet ≡ Some v → IsPlace load v
+pub stand_place : (t : Topology) (p : Plan) (load : Load) (packet : Packet) (v : VirtualChannel) → IsSoundPlan t p → IsLoad t p load → IsPacket t p packet → stand_of t p packet ≡ Some v → IsPlace load v
 stand_place t p load packet v admitted good is stands =
     let there : (v.channel.0 < length t.channels) × (v.lane < count_read p.lanes) = hop_there t p good.fabric admitted packet packet.position v is stands in
     let low : v.lane < load.count = omega (arith, there.1, good.count) in
@@ -61,7 +62,7 @@ stand_place t p load packet v admitted good is stands =
 
 -- ---- the packet on a virtual channel, where it stands and where it goes
 
-module _ (t : Topology) (p : Plan) (load : Load) (is : IsFabric t) (admitted : IsAdmitted t p) (good : IsLoad t p load) where
+module _ (t : Topology) (p : Plan) (load : Load) (is : IsFabric t) (admitted : IsSoundPlan t p) (good : IsLoad t p load) where
   pub stands_there : (v : VirtualChannel) (x : Loaded) → loaded_at load v ≡ Some x → StandsOn t p v x
   stands_there v x e = subst (λ o. IfSome o (StandsOn t p v)) e (good.stand v)
 

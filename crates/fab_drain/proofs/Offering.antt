@@ -11,15 +11,9 @@ use Rattle.fab_drain.specs.declared.packet.Packet.{Packet}
 use Rattle.fab_drain.specs.Loads.{hops_of, stand_of, IsPacket, Load, Loaded, IsPlace, loaded_at, loaded_with, with_cell, StandsOn}
 use Rattle.fab_drain.specs.Fills.{IsCandidate, key_of, key_of_row, IsFirstOf}
 use Rattle.fab_drain.specs.Offers.{is_taken, offered_at, IsEarlyCandidate, GoesFurtherEarly, IsPlacedEarly, IsFilledBefore}
+use Rattle.fab_tables.proofs.Faults.Firsts.{before_itself}
 use Rattle.fab_drain.proofs.Cells.{read_same, read_other, one_channel}
 use Rattle.fab_drain.proofs.Moving.{with_keeps}
-
--- ---- the order of keys
-
-pub not_before_itself : (k : List ℕ) → IsBefore k k → ⊥
-not_before_itself [] h = h
-not_before_itself (n ∷ k) (inl h) = absurd (omega (arith, h))
-not_before_itself (n ∷ k) (inr h) = not_before_itself k h.1
 
 pub not_both : (a b : List ℕ) → IsBefore a b → IsBefore b a → ⊥
 not_both [] [] h i = h
@@ -130,7 +124,7 @@ module _ (t : Topology) (p : Plan) where
         first : (q : Packet) → GoesFurtherEarly t p next v q → ¬ IsBefore (key_of t q) (key_of t packet)
         first q x h = elim (split q x.further.candidate.is_packet x.early) [
           | inl early ↦ none q (record { further = x.further; early = early })
-          | inr e ↦ not_before_itself (key_of t packet) (subst (λ r. IsBefore (key_of t r) (key_of t packet)) e h)
+          | inr e ↦ before_itself (key_of t packet) (subst (λ r. IsBefore (key_of t r) (key_of t packet)) e h)
         ]
 
     none_further : (Further packet → ⊥) → ((q : Packet) → ¬ GoesFurtherEarly t p place v q) → (q : Packet) → ¬ GoesFurtherEarly t p next v q
@@ -149,7 +143,7 @@ module _ (t : Topology) (p : Plan) where
         first : (q : Packet) → IsEarlyCandidate t p next v q → ¬ IsBefore (key_of t q) (key_of t packet)
         first q x h = elim (split q x.candidate.is_packet x.early) [
           | inl early ↦ none q (record { candidate = x.candidate; early = early })
-          | inr e ↦ not_before_itself (key_of t packet) (subst (λ r. IsBefore (key_of t r) (key_of t packet)) e h)
+          | inr e ↦ before_itself (key_of t packet) (subst (λ r. IsBefore (key_of t r) (key_of t packet)) e h)
         ]
 
     -- the one that stands there comes first still

@@ -19,7 +19,8 @@ use Rattle.fab_certify.proofs.Plainly.{refusal_is_unsound}
 use Rattle.fab_certify.proofs.ReadAlike.{sound_alike}
 use Rattle.fab_drain.specs.declared.packet.Packet.{Packet}
 use Rattle.fab_drain.specs.declared.state.Filled.TheVariants.{Full, Refused}
-use Rattle.fab_drain.specs.Loads.{remaining_hops, IsPacket, Load, Loaded, loaded_at, channel_of_cell, StandsOn, IsAdmitted}
+use Rattle.fab_certify.specs.Certificate.{IsSoundPlan}
+use Rattle.fab_drain.specs.Loads.{remaining_hops, IsPacket, Load, Loaded, loaded_at, channel_of_cell, StandsOn}
 use Rattle.fab_drain.specs.Fills.{IsCandidate, key_of, key_of_row, IsFirstOf, GoesFurther, IsPlaced, IsFilling}
 use Rattle.fab_drain.specs.Laws.{OneFilling}
 use Rattle.fab_drain.proofs.Cells.{read_cell}
@@ -114,7 +115,7 @@ module _ (t : Topology) (p : Plan) (is : IsFabric t) where
           ∙ ap (λ u. loaded_at y u) (sym same) ∙ read_cell y (length t.channels) k b.is_load.each (omega (arith, low, lengths))
 
 -- an admitted plan is not refused
-admitted_or_refused : (t : Topology) (p : Plan) (fault : Verdict) → IsAdmitted t p → IsCertificate t p (certified.Refused fault) → ⊥
+admitted_or_refused : (t : Topology) (p : Plan) (fault : Verdict) → IsSoundPlan t p → IsCertificate t p (certified.Refused fault) → ⊥
 admitted_or_refused t p fault a c = refusal_is_unsound t p.tables c.0 fault c.2 (sound_alike t p.tables p.lanes a.0 c.0 a.1 c.1 a.2)
 
 one_fault : (a b : Verdict) → ◌≡◌ {A = Certified} (certified.Refused a) (certified.Refused b) → a ≡ b

@@ -10,7 +10,8 @@ use Rattle.fab_tables.specs.declared.verdict.VirtualChannel.{VirtualChannel}
 use Rattle.fab_tables.specs.Dependencies.{node_of}
 use Rattle.fab_tables.proofs.Rows.Cells.{unsome}
 use Rattle.fab_drain.specs.declared.packet.Moved.TheVariants.{Went, Left, Waits, Nothing}
-use Rattle.fab_drain.specs.Loads.{Load, IsPlace, with_cell, channel_of_cell, IsLoad, IsAdmitted}
+use Rattle.fab_certify.specs.Certificate.{IsSoundPlan}
+use Rattle.fab_drain.specs.Loads.{Load, IsPlace, with_cell, channel_of_cell, IsLoad}
 use Rattle.fab_drain.specs.Moves.{next_at}
 use Rattle.fab_drain.specs.Turns.{AreTurns, AreWoken}
 use Rattle.fab_drain.proofs.Advancing.{Outcome}
@@ -19,7 +20,7 @@ use Rattle.fab_drain.proofs.Readying.{inserted_still, inserted_there, inserted_l
 use Rattle.fab_drain.proofs.Rings.{here_or_later, later}
 use Rattle.fab_drain.proofs.Turning.{more_ready, number_low, nothing_there, waits_now, leaves, comes}
 
-module _ (t : Topology) (p : Plan) (load new : Load) (good : IsLoad t p load) (admitted : IsAdmitted t p) (number : ℕ) (ready : List ℕ) (waiting : List (List ℕ)) (turns : AreTurns t p load (number ∷ ready) waiting) where
+module _ (t : Topology) (p : Plan) (load new : Load) (good : IsLoad t p load) (admitted : IsSoundPlan t p) (number : ℕ) (ready : List ℕ) (waiting : List (List ℕ)) (turns : AreTurns t p load (number ∷ ready) waiting) where
   abbrev v : VirtualChannel
   v = channel_of_cell load.count number
 

@@ -10,7 +10,8 @@ use Rattle.fab_certify.specs.Certificate.{IsCertificate}
 use Rattle.fab_drain.specs.declared.packet.Packet.{Packet}
 use Rattle.fab_drain.specs.declared.state.Filled.{Filled}
 use Rattle.fab_drain.specs.declared.state.Filled.TheVariants.{Full, Refused}
-use Rattle.fab_drain.specs.Loads.{hops_of, stand_of, IsPacket, Load, Loaded, loaded_at, IsLoad, IsAdmitted}
+use Rattle.fab_certify.specs.Certificate.{IsSoundPlan}
+use Rattle.fab_drain.specs.Loads.{hops_of, stand_of, IsPacket, Load, Loaded, loaded_at, IsLoad}
 
 -- a packet that may stand on the virtual channel
 pub record IsCandidate (t : Topology) (p : Plan) (v : VirtualChannel) (packet : Packet) : Type 0 where
@@ -47,4 +48,4 @@ pub record IsFilling (t : Topology) (p : Plan) (load : Load) : Type 0 where
 -- a plan is refused exactly where it isn't certified for other reasons than a ring, with the same verdict
 abbrev pub IsFilled : Topology → Plan → Filled → Type 0
 IsFilled t p (Refused fault) = IsCertificate t p (certified.Refused fault)
-IsFilled t p (Full load) = IsAdmitted t p × IsFilling t p load
+IsFilled t p (Full load) = IsSoundPlan t p × IsFilling t p load

@@ -9,7 +9,8 @@ use Rattle.fab_tables.specs.Certified.{IsCertified}
 use Rattle.fab_drain.specs.declared.state.Filled.{Filled}
 use Rattle.fab_drain.specs.declared.state.Drained.{Drained}
 use Rattle.fab_drain.specs.declared.state.Drained.TheVariants.{Empty}
-use Rattle.fab_drain.specs.Loads.{Load, IsLoad, IsAdmitted, emptied, packet_count, hops_left}
+use Rattle.fab_certify.specs.Certificate.{IsSoundPlan}
+use Rattle.fab_drain.specs.Loads.{Load, IsLoad, emptied, packet_count, hops_left}
 use Rattle.fab_drain.specs.Fills.{IsFilled}
 use Rattle.fab_drain.specs.Moves.{advanced, MayMove}
 use Rattle.fab_drain.specs.Drains.{EndsAs}
@@ -21,11 +22,11 @@ SomePacketMoves = (t : Topology) (p : Plan) (load : Load) → IsFabric t → Pla
 
 -- a move keeps a load, and takes one from the sum of the remaining hops
 abbrev pub MovesKeepLoads : Type 0
-MovesKeepLoads = (t : Topology) (p : Plan) (load : Load) (v : VirtualChannel) → IsFabric t → PlanFits t p → IsAdmitted t p → IsLoad t p load →
+MovesKeepLoads = (t : Topology) (p : Plan) (load : Load) (v : VirtualChannel) → IsFabric t → PlanFits t p → IsSoundPlan t p → IsLoad t p load →
     IsLoad t p (advanced t p load v).1
 
 abbrev pub MovesTakeOneHop : Type 0
-MovesTakeOneHop = (t : Topology) (p : Plan) (load : Load) (v : VirtualChannel) → IsFabric t → PlanFits t p → IsAdmitted t p → IsLoad t p load → MayMove t p load v →
+MovesTakeOneHop = (t : Topology) (p : Plan) (load : Load) (v : VirtualChannel) → IsFabric t → PlanFits t p → IsSoundPlan t p → IsLoad t p load → MayMove t p load v →
     hops_left (advanced t p load v).1 + 1 ≡ hops_left load
 
 -- a load without packets is one of any plan
@@ -41,12 +42,12 @@ abbrev pub FillingExists : Type 0
 FillingExists = (t : Topology) (p : Plan) → IsFabric t → PlanFits t p → (x : Filled) × IsFilled t p x
 
 abbrev pub OneDraining : Type 0
-OneDraining = (t : Topology) (p : Plan) (old x y : Load) (answer other : Drained) → IsFabric t → PlanFits t p → IsAdmitted t p → IsLoad t p old →
+OneDraining = (t : Topology) (p : Plan) (old x y : Load) (answer other : Drained) → IsFabric t → PlanFits t p → IsSoundPlan t p → IsLoad t p old →
     EndsAs t p old x answer → EndsAs t p old y other → (x ≡ y) × (answer ≡ other)
 
 -- a load that ends empty has made a move for each remaining hop
 abbrev pub EmptyMovesAllHops : Type 0
-EmptyMovesAllHops = (t : Topology) (p : Plan) (old new : Load) (moves : ℕ) → IsFabric t → PlanFits t p → IsAdmitted t p → IsLoad t p old →
+EmptyMovesAllHops = (t : Topology) (p : Plan) (old new : Load) (moves : ℕ) → IsFabric t → PlanFits t p → IsSoundPlan t p → IsLoad t p old →
     EndsAs t p old new (Empty moves) → moves ≡ hops_left old
 
 -- and on a certified plan each load ends so
@@ -58,4 +59,4 @@ CertifiedLoadsDrain = (t : Topology) (p : Plan) (old new : Load) (answer : Drain
 
 -- on any plan a load ends: empty, or with a ring of packets that wait for each other
 abbrev pub LoadsEnd : Type 0
-LoadsEnd = (t : Topology) (p : Plan) (load : Load) → IsFabric t → PlanFits t p → IsAdmitted t p → IsLoad t p load → (answer : Drained) × (new : Load) × EndsAs t p load new answer
+LoadsEnd = (t : Topology) (p : Plan) (load : Load) → IsFabric t → PlanFits t p → IsSoundPlan t p → IsLoad t p load → (answer : Drained) × (new : Load) × EndsAs t p load new answer

@@ -5,11 +5,9 @@ use Rattle.fab_model.specs.Topology.{Topology}
 use Rattle.fab_model.specs.WellFormed.{IsFabric}
 use Rattle.fab_tables.specs.declared.plan.Plan.{Plan}
 use Rattle.fab_tables.specs.declared.verdict.VirtualChannel.{VirtualChannel}
-use Rattle.fab_tables.specs.LaneTables.{LaneTables}
 use Rattle.fab_tables.specs.VirtualChannels.{virtual_channel}
-use Rattle.fab_tables.specs.Dependencies.{IsPath, node_of, AreReadLanes}
+use Rattle.fab_tables.specs.Dependencies.{IsPath, node_of}
 use Rattle.fab_tables.specs.Reading.{count_read, hops_read}
-use Rattle.fab_certify.specs.Numbered.{IsSound}
 use Rattle.fab_drain.specs.declared.packet.Packet.{Packet}
 pub use Rattle.fab_drain.specs.declared.packet.Loaded.{Loaded}
 
@@ -96,7 +94,3 @@ pub record IsLoad (t : Topology) (p : Plan) (load : Load) : Type 0 where
 pub record AreCells (load : Load) : Type 0 where
   pub some_lane : 0 < load.count
   pub few_cells : length load.cells < 2 ^ 32
-
--- the routes reach, and each path has a level and good lanes, so that each packet has a virtual channel to stand on
-abbrev pub IsAdmitted : Topology → Plan → Type 0
-IsAdmitted t p = (l : LaneTables) × AreReadLanes t p.lanes l × IsSound t p.tables l

@@ -10,7 +10,8 @@ ghost use Rattle.fab_graph.specs.Least.{IsLeast};
 ghost use Rattle.fab_model.specs.Topology.{Topology};
 ghost use Rattle.fab_tables.specs.declared.plan.Plan.{Plan as Planned};
 ghost use Rattle.fab_tables.specs.Fit.{PlanFits};
-ghost use Rattle.fab_drain.specs.Loads.{IsLoad, IsAdmitted, packet_count, hops_left};
+ghost use Rattle.fab_certify.specs.Certificate.{IsSoundPlan};
+ghost use Rattle.fab_drain.specs.Loads.{IsLoad, packet_count, hops_left};
 ghost use Rattle.fab_drain.specs.Drains.{Drains, IsStill, IsTakenNumber, IsWaitingRing, EndsAs};
 ghost use Rattle.fab_drain.specs.Turns.{AreTurns, IsMoveByRule};
 ghost use Rattle.fab_drain.specs.Laws.{CertifiedDrains};
@@ -33,7 +34,7 @@ impl State {
         plan: &Plan,
     ) -> Result<Drained, AllocError>
         requires fits { PlanFits fabric.now plan.now }
-        requires admitted { IsAdmitted fabric.now plan.now }
+        requires admitted { IsSoundPlan fabric.now plan.now }
         requires load { IsLoad fabric.now plan.now self.old }
         ensures ends { IfOk result (λ drained. EndsAs fabric.now plan.now self.old self.new drained) }
         // Without a certificate too, a load that ends empty has made a move for each remaining hop.
@@ -58,7 +59,7 @@ impl State {
     /// Moves packets by the rule until none may move, and counts the moves.
     fn move_all(&mut self, alloc: Global, fabric: &Fabric, plan: &Plan) -> Result<u64, AllocError>
         requires fits { PlanFits fabric.now plan.now }
-        requires admitted { IsAdmitted fabric.now plan.now }
+        requires admitted { IsSoundPlan fabric.now plan.now }
         requires load { IsLoad fabric.now plan.now self.old }
         ensures moves { IfOk result (λ moves. Drains fabric.now plan.now moves self.old self.new) }
         ensures still { OnOk result (IsStill fabric.now plan.now self.new) }
@@ -93,7 +94,7 @@ impl State {
         turns: &mut Turns,
     ) -> Result<bool, AllocError>
         requires fits { PlanFits fabric.now plan.now }
-        requires admitted { IsAdmitted fabric.now plan.now }
+        requires admitted { IsSoundPlan fabric.now plan.now }
         requires load { IsLoad fabric.now plan.now self.old }
         requires turns { AreTurns fabric.now plan.now self.old turns.old.ready.keys turns.old.waiting }
         ensures moved { IfOk result (λ moved. MatchBool moved (IsMoveByRule fabric.now plan.now self.old self.new) (IsStill fabric.now plan.now self.old × (self.new ≡ self.old))) }
@@ -117,7 +118,7 @@ impl State {
         turns: &mut Turns,
     ) -> Result<bool, AllocError>
         requires fits { PlanFits fabric.now plan.now }
-        requires admitted { IsAdmitted fabric.now plan.now }
+        requires admitted { IsSoundPlan fabric.now plan.now }
         requires load { IsLoad fabric.now plan.now self.old }
         requires turns { AreTurns fabric.now plan.now self.old (number ∷ turns.old.ready.keys) turns.old.waiting }
         requires least { All (λ other. number < other) turns.old.ready.keys }
@@ -150,7 +151,7 @@ impl State {
     /// often as there are virtual channels comes to the ring and around it.
     fn waiting_ring(&self, alloc: Global, fabric: &Fabric, plan: &Plan) -> Result<Ring, AllocError>
         requires fits { PlanFits fabric.now plan.now }
-        requires admitted { IsAdmitted fabric.now plan.now }
+        requires admitted { IsSoundPlan fabric.now plan.now }
         requires load { IsLoad fabric.now plan.now self.now }
         requires still { IsStill fabric.now plan.now self.now }
         requires some { 0 < packet_count self.now }

@@ -2,21 +2,22 @@
 //! terminal's port and position; a virtual channel keeps the first one that goes further, and until that comes the
 //! first one.
 //!
-//! It takes the time of certifying the plan, and two steps for each hop of the routes of all terminals to all LIDs;
-//! memory for a certificate, and some 20 bytes for each channel and lane.
+//! It takes the time of a look for faults, and two steps for each hop of the routes of all terminals to all LIDs;
+//! memory for a copy of the plan, and some 20 bytes for each channel and lane.
 ghost use Rattle.std.specs.Prelude.{◌≡◌, suc, ◌*◌, ◌<◌, [], ◌∷◌, length, IfOk, None, replicate};
 ghost use Rattle.fab_model.specs.Connected.{IsConnectedTo};
 ghost use Rattle.fab_tables.specs.Fit.{PlanFits};
 ghost use Rattle.fab_tables.specs.Reading.{count_read};
 ghost use Rattle.fab_tables.specs.Starts.{AreStarts, IsOfTerminal};
-ghost use Rattle.fab_drain.specs.Loads.{IsPlace, IsAdmitted};
+ghost use Rattle.fab_certify.specs.Certificate.{IsSoundPlan};
+ghost use Rattle.fab_drain.specs.Loads.{IsPlace};
 ghost use Rattle.fab_drain.specs.Fills.{IsFilling, IsFilled};
 ghost use Rattle.fab_drain.specs.Offers.{offered_at, IsFilledBefore, before_start, behind_start};
 
 use crate::packet::{Loaded, Packet};
 use crate::packet_hops::{hop_count, packet_hops};
 use crate::state::{Filled, State};
-use fab_certify::{Certified, certify};
+use fab_certify::refusal;
 use fab_model::{Fabric, Lid};
 use fab_tables::{Components, Plan, Start, VirtualChannel, starts_of};
 use std::alloc::{AllocError, Global};
@@ -26,7 +27,7 @@ pub fn fill(alloc: Global, fabric: &Fabric, plan: &Plan) -> Result<Filled, Alloc
     requires { PlanFits fabric.now plan.now }
     ensures { IfOk result (λ filled. IsFilled fabric.now plan.now filled) }
 {
-    if let Certified::Refused(fault) = certify(alloc, fabric, plan)? {
+    if let Some(fault) = refusal(alloc, fabric, plan)? {
         return Ok(Filled::Refused(fault));
     }
     let state = filled(alloc, fabric, plan)?;
@@ -36,7 +37,7 @@ pub fn fill(alloc: Global, fabric: &Fabric, plan: &Plan) -> Result<Filled, Alloc
 /// The load that fills a fabric.
 fn filled(alloc: Global, fabric: &Fabric, plan: &Plan) -> Result<State, AllocError>
     requires fits { PlanFits fabric.now plan.now }
-    requires admitted { IsAdmitted fabric.now plan.now }
+    requires admitted { IsSoundPlan fabric.now plan.now }
     ensures { IfOk result (IsFilling fabric.now plan.now) }
 {
     let components = Components::of(alloc, fabric)?;
@@ -76,7 +77,7 @@ impl State {
         starts: &[Start],
     )
         requires fits { PlanFits fabric.now plan.now }
-        requires admitted { IsAdmitted fabric.now plan.now }
+        requires admitted { IsSoundPlan fabric.now plan.now }
         requires components { components.now ≡ fabric.now }
         requires starts { AreStarts fabric.now starts.now }
         requires before { IsFilledBefore fabric.now plan.now (lid.0 ∷ []) self.old }
@@ -95,7 +96,7 @@ impl State {
     /// Offers the packets of a start's terminal to a LID.
     fn offer_from(&mut self, fabric: &Fabric, plan: &Plan, start: Start, lid: Lid)
         requires fits { PlanFits fabric.now plan.now }
-        requires admitted { IsAdmitted fabric.now plan.now }
+        requires admitted { IsSoundPlan fabric.now plan.now }
         requires start { IsOfTerminal fabric.now start }
         requires connected { IsConnectedTo fabric.now start.switch.0 lid.0 }
         requires before { IsFilledBefore fabric.now plan.now (before_start lid.0 start) self.old }

@@ -6,7 +6,8 @@
 ghost use Rattle.std.specs.Prelude.{◌≡◌, ℕ, ◌+◌, ◌<◌, ◌≤◌, length, IfOk, OnErr, Option, Some, None};
 ghost use Rattle.fab_tables.specs.Dependencies.{node_of};
 ghost use Rattle.fab_tables.specs.Fit.{PlanFits};
-ghost use Rattle.fab_drain.specs.Loads.{IsLoad, IsPacket, IsPlace, IsAdmitted, loaded_at, with_cell, channel_of_cell, emptied, packet_count, hops_left};
+ghost use Rattle.fab_certify.specs.Certificate.{IsSoundPlan};
+ghost use Rattle.fab_drain.specs.Loads.{IsLoad, IsPacket, IsPlace, loaded_at, with_cell, channel_of_cell, emptied, packet_count, hops_left};
 ghost use Rattle.fab_drain.specs.Moves.{put_in, advanced, next_at, IsMove};
 
 use crate::packet::{Loaded, Moved, Packet, Put};
@@ -91,7 +92,7 @@ impl State {
     /// Puts a packet where it stands, unless another one stands there.
     pub fn put(&mut self, fabric: &Fabric, plan: &Plan, packet: Packet) -> Put
         requires fits { PlanFits fabric.now plan.now }
-        requires admitted { IsAdmitted fabric.now plan.now }
+        requires admitted { IsSoundPlan fabric.now plan.now }
         requires load { IsLoad fabric.now plan.now self.old }
         requires packet { IsPacket fabric.now plan.now packet }
         ensures put { (result, self.new) ≡ put_in fabric.now plan.now self.old packet }
@@ -111,7 +112,7 @@ impl State {
     /// Moves the packet on a virtual channel, if there is one and it doesn't wait.
     pub fn advance(&mut self, fabric: &Fabric, plan: &Plan, at: VirtualChannel) -> Moved
         requires fits { PlanFits fabric.now plan.now }
-        requires admitted { IsAdmitted fabric.now plan.now }
+        requires admitted { IsSoundPlan fabric.now plan.now }
         requires load { IsLoad fabric.now plan.now self.old }
         requires at { at.channel.0 < length fabric.now.channels }
         ensures moved { (result, self.new) ≡ advanced fabric.now plan.now self.old at }
@@ -132,7 +133,7 @@ impl State {
         at: VirtualChannel,
     ) -> Option<VirtualChannel>
         requires fits { PlanFits fabric.now plan.now }
-        requires admitted { IsAdmitted fabric.now plan.now }
+        requires admitted { IsSoundPlan fabric.now plan.now }
         requires load { IsLoad fabric.now plan.now self.now }
         requires at { at.channel.0 < length fabric.now.channels }
         ensures { result ≡ next_at fabric.now plan.now self.now at }
@@ -150,7 +151,7 @@ impl State {
         next: Option<VirtualChannel>,
     ) -> Moved
         requires fits { PlanFits fabric.now plan.now }
-        requires admitted { IsAdmitted fabric.now plan.now }
+        requires admitted { IsSoundPlan fabric.now plan.now }
         requires load { IsLoad fabric.now plan.now self.old }
         requires at { at.channel.0 < length fabric.now.channels }
         requires next { next ≡ next_at fabric.now plan.now self.old at }

@@ -4,7 +4,8 @@ ghost use Rattle.std.specs.Prelude.{◌≡◌, ◌+◌, ◌*◌, ◌<◌, ◌≤
 ghost use Rattle.fab_model.specs.Records.{last_line};
 ghost use Rattle.fab_model.specs.Topology.{lids_of};
 ghost use Rattle.fab_tables.specs.Fit.{PlanFits};
-ghost use Rattle.fab_drain.specs.Loads.{IsLoad, IsAdmitted};
+ghost use Rattle.fab_certify.specs.Certificate.{IsSoundPlan};
+ghost use Rattle.fab_drain.specs.Loads.{IsLoad};
 
 use crate::{Drained, Filled, Moved, Put, State, fill};
 use fab_model::{ChannelId, Desc, Fabric, Lid, NodeKind, Raw, RawLink, RawNode, SwitchId};
@@ -163,7 +164,7 @@ fn plan_of(
 /// A full load.
 fn full(rt: &impl Abort, alloc: Global, fabric: &Fabric, plan: &Plan) -> Result<State, Fail>
     ensures fits { OnOk result (PlanFits fabric.now plan.now) }
-    ensures admitted { OnOk result (IsAdmitted fabric.now plan.now) }
+    ensures admitted { OnOk result (IsSoundPlan fabric.now plan.now) }
     ensures load { IfOk result (IsLoad fabric.now plan.now) }
 {
     assert!(rt; plan.fits(fabric));
@@ -175,7 +176,7 @@ fn full(rt: &impl Abort, alloc: Global, fabric: &Fabric, plan: &Plan) -> Result<
 
 fn advanced(rt: &impl Abort, fabric: &Fabric, plan: &Plan, state: &mut State, channel: u32) -> Moved
     requires fits { PlanFits fabric.now plan.now }
-    requires admitted { IsAdmitted fabric.now plan.now }
+    requires admitted { IsSoundPlan fabric.now plan.now }
     requires load { IsLoad fabric.now plan.now state.old }
     ensures { IsLoad fabric.now plan.now state.new }
 {
@@ -196,7 +197,7 @@ fn put_alone(
     channel: u32,
 ) -> (Put, Put)
     requires fits { PlanFits fabric.now plan.now }
-    requires admitted { IsAdmitted fabric.now plan.now }
+    requires admitted { IsSoundPlan fabric.now plan.now }
     requires load { IsLoad fabric.now plan.now state.old }
     ensures { IsLoad fabric.now plan.now state.new }
 {

@@ -1,11 +1,19 @@
-use Rattle.fab_drain.proofs.FillingOn.{admitted_by}
+use Rattle.std.proofs.Common.{subst}
+use Rattle.std.specs.Prelude.{MatchOption}
+use Rattle.fab_certify.specs.declared.certified.Certified.TheVariants as certified
+use Rattle.fab_certify.specs.Certificate.{IsCertificate, IsSoundPlan}
 use Rattle.fab_drain.proofs.filling.fill.Goals as goal
 
-pub filled-requires : goal.filled-requires
-filled-requires c = record {
-  fits = c.requires;
-  admitted = admitted_by c.args.fabric.now c.args.plan.now c.in_ok-fault.field-0 c.in_ok-fault.ensures.answer c.in_default.not-Refused;
-}
+pub filled-requires-clause-admitted : goal.filled-requires-clause-admitted
+filled-requires-clause-admitted c =
+    subst (λ o. MatchOption o (IsSoundPlan c.args.fabric.now c.args.plan.now) (λ verdict. IsCertificate c.args.fabric.now c.args.plan.now (certified.Refused verdict))) c.in_default.is c.in_ok-fault.ensures
+
+pub returns-in-Some : goal.returns-in-Some
+returns-in-Some c =
+    subst (λ o. MatchOption o (IsSoundPlan c.args.fabric.now c.args.plan.now) (λ verdict. IsCertificate c.args.fabric.now c.args.plan.now (certified.Refused verdict))) c.in-Some.is c.in_ok-fault.ensures
 
 pub returns : goal.returns
-returns c = (admitted_by c.args.fabric.now c.args.plan.now c.in_ok-fault.field-0 c.in_ok-fault.ensures.answer c.in_default.not-Refused, c.in_ok-state.ensures)
+returns c =
+    let sound : IsSoundPlan c.args.fabric.now c.args.plan.now =
+    subst (λ o. MatchOption o (IsSoundPlan c.args.fabric.now c.args.plan.now) (λ verdict. IsCertificate c.args.fabric.now c.args.plan.now (certified.Refused verdict))) c.in_default.is c.in_ok-fault.ensures in
+    (sound, c.in_ok-state.ensures)
