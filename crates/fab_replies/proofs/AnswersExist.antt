@@ -29,7 +29,7 @@ use Rattle.fab_tables.specs.Fit.{LanesFit}
 use Rattle.fab_tables.specs.LaneTables.{LaneTables, AreLaneTables}
 use Rattle.fab_tables.specs.Dependencies.{AreReadLanes, node_of}
 use Rattle.fab_tables.specs.VirtualChannels.{virtual_channels}
-use Rattle.fab_tables.proofs.Faults.Firsts.{order}
+use Rattle.fab_tables.proofs.Faults.Firsts.{first_in}
 use Rattle.fab_tables.proofs.Verdicts.CertifiedLaws.{get_of}
 use Rattle.fab_tables.proofs.Verdicts.DeadlockLaws.{some_at}
 use Rattle.fab_tables.proofs.Joined.Ascending.{lids_are}
@@ -100,63 +100,12 @@ is_true (inr refuted) q = absurd (refuted q)
 
 -- ---- the first of listed places
 
-before_itself : (p : List ℕ) → ¬ IsBefore p p
-before_itself [] h = h
-before_itself (m ∷ ms) (inl less) = omega (arith, less)
-before_itself (m ∷ ms) (inr same) = before_itself ms same.1
-
-before_through : (p q r : List ℕ) → IsBefore p q → IsBefore q r → IsBefore p r
-before_through [] [] r h k = absurd h
-before_through [] (n ∷ ns) [] h k = absurd k
-before_through [] (n ∷ ns) (o ∷ os) h k = tt
-before_through (m ∷ ms) [] r h k = absurd h
-before_through (m ∷ ms) (n ∷ ns) [] h k = absurd k
-before_through (m ∷ ms) (n ∷ ns) (o ∷ os) (inl a) (inl b) = inl (omega (arith, a, b))
-before_through (m ∷ ms) (n ∷ ns) (o ∷ os) (inl a) (inr b) = inl (omega (arith, a, b.0))
-before_through (m ∷ ms) (n ∷ ns) (o ∷ os) (inr a) (inl b) = inl (omega (arith, a.0, b))
-before_through (m ∷ ms) (n ∷ ns) (o ∷ os) (inr a) (inr b) = inr (a.0 ∙ b.0, before_through ms ns os a.1 b.1)
-
 pub record Placed : Type 0 where
   pub place : List ℕ
   pub fault : Replied
 
 abbrev placed : List ℕ → Replied → Placed
 placed place fault = record { place = place; fault = fault }
-
-abbrev FirstIn : List Placed → Type 0
-FirstIn xs = (x : Placed) × Contains xs x × ((y : Placed) → Contains xs y → ¬ IsBefore y.place x.place)
-
-first_in : (xs : List Placed) → FirstIn xs ⊎ ((y : Placed) → ¬ Contains xs y)
-first_in [] = inr (λ y has. omega (arith, has.1))
-first_in (x ∷ xs) = inl (elim (first_in xs) [ inl m ↦ with_first m | inr none ↦ (x, first x xs, λ y has. alone none y (first_or_later x xs y has)) ])
-  where
-    alone : ((y : Placed) → ¬ Contains xs y) → (y : Placed) → (x ≡ y) ⊎ Contains xs y → ¬ IsBefore y.place x.place
-    alone none y (inl e) before = before_itself x.place (subst (λ (q : Placed). IsBefore q.place x.place) (sym e) before)
-    alone none y (inr has) before = none y has
-
-    with_first : FirstIn xs → FirstIn (x ∷ xs)
-    with_first m = elim (order x.place m.0.place) [
-      | inl sooner ↦ (
-        x,
-        first x xs,
-        λ y has before. elim (first_or_later x xs y has) [
-          | inl e ↦ before_itself x.place (subst (λ (q : Placed). IsBefore q.place x.place) (sym e) before)
-          | inr there ↦ m.2 y there (before_through y.place x.place m.0.place before sooner)
-        ],
-      )
-      | inr later_or_same ↦ (
-        m.0,
-        later x xs m.0 m.1,
-        λ y has before. elim (first_or_later x xs y has) [
-          | inr there ↦ m.2 y there before
-          | inl e ↦ not_sooner later_or_same (subst (λ (q : Placed). IsBefore q.place m.0.place) (sym e) before)
-        ],
-      )
-    ]
-      where
-        not_sooner : (x.place ≡ m.0.place) ⊎ IsBefore m.0.place x.place → ¬ IsBefore x.place m.0.place
-        not_sooner (inl same) before = before_itself m.0.place (subst (λ k. IsBefore k m.0.place) same before)
-        not_sooner (inr after) before = before_itself x.place (before_through x.place m.0.place x.place before after)
 
 -- ---- numbers that are given are small
 
@@ -400,7 +349,7 @@ module _ (t : Topology) (e : Entries) (l : LaneTables) where
         }
 
     answered : (answer : Replied) × IsAnswerBy t e l answer
-    answered = elim (first_in faulty.list) [
+    answered = elim (first_in (λ (q : Placed). q.place) faulty.list) [
       | inl f ↦
           (f.0.fault, answers_first f.0 (faulty.only f.0 f.1) (λ earlier other sooner stands. f.2 (record { place = earlier; fault = other }) (faulty.all (record { place = earlier; fault = other }) stands) sooner))
       | inr none ↦ by_ring (good_without none) (ring_or_acyclic collected.pairs)

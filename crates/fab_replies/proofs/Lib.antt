@@ -10,3 +10,6 @@ pub mod Sending
 pub mod ReplyFaults
 pub mod ReplyWays
 pub mod ReadPlans
+pub mod TurningLanes
+pub mod EngineReplies
+mod RingMessages

@@ -59,6 +59,13 @@ bad_same : (lid other from also : Lid) (at there : SwitchId) → lid.0 ≡ other
 bad_same lid other from also at there a b c =
     ap (λ (n : ℕ). BadLane (record { 0 = n }) from at) a ∙ ap (λ (n : ℕ). BadLane other (record { 0 = n }) at) b ∙ ap (λ (s : SwitchId). BadLane other also s) c
 
+-- where the lane of a reply is bad, not all are good
+pub faulty_replies : (t : Topology) (e : Entries) (l : LaneTables) (lid from : Lid) (at : SwitchId) → IsFirst (IsFaultAt t e l) (BadLane lid from at) → ¬ HasGoodReplies t e l
+faulty_replies t e l lid from at x good =
+    let b : IsBadAt t e l x.0 lid from at = x.1 in
+    let hops : List VirtualChannel = reply_hops t e l b.terminal from.0 b.source in
+    omega (arith, b.bad, good hops b.taken (b.terminal, from.0, b.source, b.reply, refl) (contains_of hops b.hop b.taken b.at_hop))
+
 module _ (t : Topology) (fabric : IsFabric t) (e : Entries) (l : LaneTables) where
   hop_same : (p q : TerminalRow) (a b : ℕ) (u v : Place) (h k : ℕ) → p ≡ q → a ≡ b → u ≡ v → h ≡ k → slice_get (reply_hops t e l p a u) h ≡ slice_get (reply_hops t e l q b v) k
   hop_same p q a b u v h k w x y z =
@@ -97,12 +104,6 @@ module _ (t : Topology) (fabric : IsFabric t) (e : Entries) (l : LaneTables) whe
       numbers : m.numbers ≡ n.numbers
       numbers = same_numbers (IsUsedJointly t e l) (DependsJointly t e l) (bare_lanes t l.count) (bare_lanes t l.count) m n
           (ap (λ (k : LaneTables). k.channels) x.same ∙ sym (ap (λ (k : LaneTables). k.channels) y.same)) x y
-
-  faulty : (lid from : Lid) (at : SwitchId) → IsFirst (IsFaultAt t e l) (BadLane lid from at) → ¬ HasGoodReplies t e l
-  faulty lid from at x good =
-      let b : IsBadAt t e l x.0 lid from at = x.1 in
-      let hops : List VirtualChannel = reply_hops t e l b.terminal from.0 b.source in
-      omega (arith, b.bad, good hops b.taken (b.terminal, from.0, b.source, b.reply, refl) (contains_of hops b.hop b.taken b.at_hop))
 
   ring_or_numbers : (ring : List ℕ) (new : LaneTables) → IsSound t e l → HasGoodReplies t e l → IsFirstRing (DependsJointlyByNode t e l) ring → IsNumbered new → ⊥
   ring_or_numbers ring new sound good first numbered = joint_ring_is_cyclic t e l ring sound good first (Graphs.levels_rise (DependsJointly t e l) numbered.level numbered.levels)
@@ -185,10 +186,10 @@ module _ (t : Topology) (fabric : IsFabric t) (p : Plan) (fits : PlanFits t p) (
   one_by (RingReplies ring) (Refused f) u v = absurd (sound_or_refusal f u.0 v)
   one_by (Numbers new) (Refused f) u v = absurd (sound_or_refusal f u.0 v)
   one_by (BadLane a b c) (BadLane f g h) u v = one_first (IsFaultAt t e l) (one_fault_at t fabric e l) (BadLane a b c) (BadLane f g h) u.1 (first_back f g h v.1)
-  one_by (BadLane a b c) (RingReplies ring) u v = absurd (faulty t fabric e l a b c u.1 (good_back v.1))
-  one_by (BadLane a b c) (Numbers new) u v = absurd (faulty t fabric e l a b c u.1 (good_back v.1))
-  one_by (RingReplies ring) (BadLane a b c) u v = absurd (faulty t fabric e l a b c (first_back a b c v.1) u.1)
-  one_by (Numbers new) (BadLane a b c) u v = absurd (faulty t fabric e l a b c (first_back a b c v.1) u.1)
+  one_by (BadLane a b c) (RingReplies ring) u v = absurd (faulty_replies t e l a b c u.1 (good_back v.1))
+  one_by (BadLane a b c) (Numbers new) u v = absurd (faulty_replies t e l a b c u.1 (good_back v.1))
+  one_by (RingReplies ring) (BadLane a b c) u v = absurd (faulty_replies t e l a b c (first_back a b c v.1) u.1)
+  one_by (Numbers new) (BadLane a b c) u v = absurd (faulty_replies t e l a b c (first_back a b c v.1) u.1)
   one_by (RingReplies ring) (RingReplies more) u v = ap (λ r. RingReplies r) (Graphs.one_first_ring (DependsJointlyByNode t e l) ring more u.2 (ring_back more v.2))
   one_by (RingReplies ring) (Numbers new) u v = absurd (ring_or_numbers t fabric e l ring new u.0 u.1 u.2 (numbered_back new v.2))
   one_by (Numbers new) (RingReplies ring) u v = absurd (ring_or_numbers t fabric e l ring new u.0 u.1 (ring_back ring v.2) u.2)

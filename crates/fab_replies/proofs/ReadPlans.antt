@@ -13,7 +13,7 @@ use Rattle.fab_certify.proofs.ReadAlike.{sound_alike}
 use Rattle.fab_replies.specs.declared.replied.Replied.{Replied}
 use Rattle.fab_replies.specs.declared.replied.Replied.TheVariants.{Numbers, Refused, BadLane, RingReplies}
 use Rattle.fab_replies.specs.Answers.{IsFaultAt, IsAnswerBy, IsAnswerTo}
-use Rattle.fab_replies.specs.ReplyTo.{IsSoundPlan}
+use Rattle.fab_certify.specs.Certificate.{IsSoundPlan}
 use Rattle.fab_replies.specs.Read.{Read}
 
 read_fits : (t : Topology) (o : Option LaneTables) (l : LaneTables) → IfSome o (LanesFit t) → AreReadLanes t o l → LanesFit t l

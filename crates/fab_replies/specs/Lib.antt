@@ -2,6 +2,8 @@ pub mod Replies
 pub mod Waiting
 pub mod Answers
 pub mod Covered
+pub mod Turning
+pub mod Ringed
 pub mod Laws
 pub mod Read
 pub mod Jointly

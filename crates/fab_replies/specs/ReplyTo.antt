@@ -32,7 +32,3 @@ abbrev pub FindsReplyWay : Topology → Entries → LaneTables → ℕ → ℕ �
 FindsReplyWay t e l lid from None = (p : TerminalRow) → p.lid.0 ≡ lid → ¬ IsPath t p from
 FindsReplyWay t e l lid from (Some way) = IsWay t e l way × (way.lid.0 ≡ lid) × (p : TerminalRow) × (source : Place) × (p.lid.0 ≡ lid) × IsReply t p from source
     × ((q : TerminalRow) (other : Place) → q.lid.0 ≡ lid → IsReply t q from other → reply_hops t e l q from other ≡ hops_of t e l way)
-
--- no fault of the plan is one that no numbers can mend
-abbrev pub IsSoundPlan : Topology → Plan → Type 0
-IsSoundPlan t p = (l : LaneTables) × AreReadLanes t p.lanes l × IsSound t p.tables l

@@ -8,22 +8,22 @@
 //! Source: W. J. Dally and C. L. Seitz, "Deadlock-Free Message Routing in Multiprocessor Interconnection Networks",
 //! IEEE Transactions on Computers 36 (1987); that a path is reversible, and that an answer keeps the service level of
 //! what it answers, is InfiniBand's.
-ghost use Rattle.std.specs.Prelude.{◌≡◌, IfOk, MatchOption};
+ghost use Rattle.std.specs.Prelude.{◌≡◌, ℕ, List, IfOk};
 ghost use Rattle.fab_tables.specs.LaneTables.{LaneTables};
 ghost use Rattle.fab_tables.specs.Fit.{PlanFits};
 ghost use Rattle.fab_certify.specs.Numbered.{IsSound};
 ghost use Rattle.fab_replies.specs.Answers.{IsAnswerTo, IsAnswerBy, HasGoodReplies};
-ghost use Rattle.fab_replies.specs.ReplyTo.{IsSoundPlan};
 ghost use Rattle.fab_replies.specs.Covered.{Covers};
 ghost use Rattle.fab_replies.specs.Jointly.{AreJointly};
+ghost use Rattle.fab_replies.specs.Ringed.{IsDeadlockedRing};
 
 use crate::collecting::{Joint, collect};
 use crate::reading::Reading;
 use crate::replied::Replied;
-use fab_certify::{Certified, Dependencies, certify, lanes_read, set_numbers};
+use fab_certify::{Dependencies, lanes_read, refusal, set_numbers};
 use fab_model::Fabric;
 use fab_rings::{Numbering, levels_or_ring};
-use fab_tables::{Components, Lanes, Plan, Starts, Verdict};
+use fab_tables::{Components, Lanes, Plan, Starts};
 use std::alloc::{AllocError, Global};
 
 /// Numbers the virtual channels of a plan's packets and of the replies to them.
@@ -36,6 +36,8 @@ pub fn replies(alloc: Global, fabric: &Fabric, plan: &Plan) -> Result<Replied, A
     ensures answer { IfOk result (λ answer. IsAnswerTo fabric.now plan.now answer) }
     // Numbers rise along all that packets and replies do, and none of these wait for each other.
     ensures covered { IfOk result (λ answer. (new : LaneTables) → answer ≡ Replied.Numbers new → Covers fabric.now plan.now new) }
+    // Where there is a ring, some of them do.
+    ensures deadlocked { IfOk result (λ answer. (ring : List ℕ) → answer ≡ Replied.RingReplies ring → IsDeadlockedRing fabric.now plan.now ring) }
 {
     if let Some(fault) = refusal(alloc, fabric, plan)? {
         return Ok(Replied::Refused(fault));
@@ -49,17 +51,6 @@ pub fn replies(alloc: Global, fabric: &Fabric, plan: &Plan) -> Result<Replied, A
         Joint::Dependencies(dependencies) => numbered(alloc, &reading, &dependencies),
         Joint::Fault(fault) => Ok(fault),
     }
-}
-
-/// The first fault of a plan that no numbers can mend.
-fn refusal(alloc: Global, fabric: &Fabric, plan: &Plan) -> Result<Option<Verdict>, AllocError>
-    requires { PlanFits fabric.now plan.now }
-    ensures { IfOk result (λ fault. MatchOption fault (IsSoundPlan fabric.now plan.now) (λ verdict. IsAnswerTo fabric.now plan.now (Replied.Refused verdict))) }
-{
-    if let Certified::Refused(fault) = certify(alloc, fabric, plan)? {
-        return Ok(Some(fault));
-    }
-    Ok(None)
 }
 
 /// The levels of the joint dependencies as numbers, or the first ring.

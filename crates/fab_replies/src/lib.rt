@@ -8,7 +8,10 @@ mod reading;
 mod replied;
 
 pub use certifying::replies;
-pub use laws::{answer_exists, numbers_cover, one_answer, same_level_is_packet};
+pub use laws::{
+    acyclic_by_level_is_numbered, acyclic_is_numbered, answer_exists, numbers_cover, one_answer,
+    ring_is_deadlocked, same_level_is_packet,
+};
 pub use replied::Replied;
 
 #[cfg(test)]
