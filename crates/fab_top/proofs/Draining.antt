@@ -6,14 +6,14 @@ use Rattle.fab_tables.specs.declared.plan.Plan.{Plan}
 use Rattle.fab_tables.specs.declared.verdict.Verdict.{Verdict}
 use Rattle.fab_tables.specs.Fit.{PlanFits}
 use Rattle.fab_certify.specs.declared.certified.Certified.TheVariants as certified
-use Rattle.fab_certify.specs.Certificate.{IsCertificate}
+use Rattle.fab_certify.specs.Certificate.{IsCertificate, IsSoundPlan}
 use Rattle.fab_certify.proofs.Plainly.{refusal_is_unsound}
 use Rattle.fab_certify.proofs.ReadAlike.{sound_alike}
 use Rattle.fab_drain.specs.declared.state.Drained.{Drained}
 use Rattle.fab_drain.specs.declared.state.Drained.TheVariants.{Empty, Waiting}
 use Rattle.fab_drain.specs.declared.state.Filled.{Filled}
 use Rattle.fab_drain.specs.declared.state.Filled.TheVariants as filled
-use Rattle.fab_drain.specs.Loads.{Load as Packets, packet_count, hops_left, IsLoad, IsAdmitted}
+use Rattle.fab_drain.specs.Loads.{Load as Packets, packet_count, hops_left, IsLoad}
 use Rattle.fab_drain.specs.Fills.{IsFilling, IsFilled}
 use Rattle.fab_drain.specs.Drains.{EndsAs}
 use Rattle.fab_drain.proofs.Endings.{one_draining, empty_moves_all_hops, certified_loads_drain, loads_end}
@@ -38,12 +38,12 @@ refused_keeps : (t : Topology) (p : Plan) (fault : Verdict) (text : List ℕ) (a
 refused_keeps t p fault text a is answer = record {
   emptied = λ all. absurd (not_done text a answer all);
   certified = λ good.
-      let admitted : IsAdmitted t p = certified_admitted t p good in
+      let admitted : IsSoundPlan t p = certified_admitted t p good in
       absurd (refusal_is_unsound t p.tables is.0 fault is.2 (sound_alike t p.tables p.lanes admitted.0 is.0 admitted.1 is.1 admitted.2));
   nothing = λ not. ap (λ (b : Answer). b.out) answer;
 }
 
-drained_keeps : (t : Topology) (p : Plan) (old new : Packets) (drained : Drained) (a : Answer) → IsFabric t → PlanFits t p → IsAdmitted t p → IsFilling t p old → EndsAs t p old new drained →
+drained_keeps : (t : Topology) (p : Plan) (old new : Packets) (drained : Drained) (a : Answer) → IsFabric t → PlanFits t p → IsSoundPlan t p → IsFilling t p old → EndsAs t p old new drained →
     a ≡ drained_answer t old new drained → DrainsTruly t p a
 drained_keeps t p old new (Empty moves) a fabric fits admitted filling ends is = record {
   emptied = λ all. (old, filling, ap (λ (b : Answer). b.out) is ∙ ap (λ (n : ℕ). drained_text (packet_count old) n) (empty_moves_all_hops t p old new moves fabric fits admitted filling.is_load ends));
@@ -76,7 +76,7 @@ small_by t p (filled.Full old) a is = drained_is_small t old is.0 is.1 a is.3
 pub drain_is_small : (t : Topology) (p : Plan) (a : Answer) → IsDrainAnswer t p a → a.status ≤ 1
 drain_is_small t p a is = small_by t p is.0 a is.2
 
-one_drained : (t : Topology) (p : Plan) (old : Packets) (a b : Answer) → IsFabric t → PlanFits t p → IsAdmitted t p → IsLoad t p old → IsDrainedFrom t p old a → IsDrainedFrom t p old b → a ≡ b
+one_drained : (t : Topology) (p : Plan) (old : Packets) (a b : Answer) → IsFabric t → PlanFits t p → IsSoundPlan t p → IsLoad t p old → IsDrainedFrom t p old a → IsDrainedFrom t p old b → a ≡ b
 one_drained t p old a b fabric fits admitted load x y =
     let same : (x.0 ≡ y.0) × (x.1 ≡ y.1) = one_draining t p old x.0 y.0 x.1 y.1 fabric fits admitted load x.2 y.2 in
     x.3 ∙ ap (λ (new : Packets). drained_answer t old new x.1) same.0 ∙ ap (drained_answer t old y.0) same.1 ∙ sym y.3
@@ -105,7 +105,7 @@ drain_exists t p read =
 -- ---- as outcomes
 
 -- what is known of a load, or of a fault, by its case
-pub full_admitted : (t : Topology) (p : Plan) (load : Filled) (old : Packets) → IsFilled t p load → load ≡ filled.Full old → IsAdmitted t p
+pub full_admitted : (t : Topology) (p : Plan) (load : Filled) (old : Packets) → IsFilled t p load → load ≡ filled.Full old → IsSoundPlan t p
 full_admitted t p load old fill same = let of : IsFilled t p (filled.Full old) = subst (IsFilled t p) same fill in of.0
 
 pub full_filling : (t : Topology) (p : Plan) (load : Filled) (old : Packets) → IsFilled t p load → load ≡ filled.Full old → IsFilling t p old
@@ -125,7 +125,7 @@ refused_found t p fault load text outcome fill same is answer put =
       can_be_put = put;
     }
 
-drained_found : (t : Topology) (p : Plan) (old new : Packets) (drained : Drained) (outcome : Outcome) → IsFabric t → PlanFits t p → IsAdmitted t p → IsFilling t p old → EndsAs t p old new drained →
+drained_found : (t : Topology) (p : Plan) (old new : Packets) (drained : Drained) (outcome : Outcome) → IsFabric t → PlanFits t p → IsSoundPlan t p → IsFilling t p old → EndsAs t p old new drained →
     answer_of outcome ≡ drained_answer t old new drained → CanBePut outcome → IsRightOutcome (IsDrainAnswer t p) (DrainsTruly t p) outcome
 drained_found t p old new drained outcome fabric fits admitted filling ends answer put = record {
   is = (filled.Full old, (admitted, filling), (new, drained, ends, answer));
@@ -134,14 +134,14 @@ drained_found t p old new drained outcome fabric fits admitted filling ends answ
   can_be_put = put;
 }
 
-pub empty_found : (t : Topology) (p : Plan) (old new : Packets) (drained : Drained) (packets moves : ℕ) (text : List ℕ) (outcome : Outcome) → IsFabric t → PlanFits t p → IsAdmitted t p → IsFilling t p old →
+pub empty_found : (t : Topology) (p : Plan) (old new : Packets) (drained : Drained) (packets moves : ℕ) (text : List ℕ) (outcome : Outcome) → IsFabric t → PlanFits t p → IsSoundPlan t p → IsFilling t p old →
     EndsAs t p old new drained → drained ≡ Empty moves → packets ≡ packet_count old → text ≡ drained_text packets moves → answer_of outcome ≡ done text → CanBePut outcome →
     IsRightOutcome (IsDrainAnswer t p) (DrainsTruly t p) outcome
 empty_found t p old new drained packets moves text outcome fabric fits admitted filling ends same counted is answer put =
     drained_found t p old new drained outcome fabric fits admitted filling ends
     (answer ∙ ap done (is ∙ ap (λ (n : ℕ). drained_text n moves) counted) ∙ ap (drained_answer t old new) (sym same)) put
 
-pub waiting_found : (t : Topology) (p : Plan) (old new : Packets) (drained : Drained) (count packets moves : ℕ) (ring text : List ℕ) (outcome : Outcome) → IsFabric t → PlanFits t p → IsAdmitted t p → IsFilling t p old →
+pub waiting_found : (t : Topology) (p : Plan) (old new : Packets) (drained : Drained) (count packets moves : ℕ) (ring text : List ℕ) (outcome : Outcome) → IsFabric t → PlanFits t p → IsSoundPlan t p → IsFilling t p old →
     IsLoad t p new → EndsAs t p old new drained → drained ≡ Waiting moves ring → count ≡ lane_count p.lanes → packets ≡ packet_count new → text ≡ waiting_text t count packets moves ring →
     answer_of outcome ≡ no text → CanBePut outcome → IsRightOutcome (IsDrainAnswer t p) (DrainsTruly t p) outcome
 waiting_found t p old new drained count packets moves ring text outcome fabric fits admitted filling load ends same lanes counted is answer put =

@@ -3,7 +3,7 @@
 ghost use Rattle.std.specs.Prelude.{◌<◌, length};
 ghost use Rattle.fab_model.specs.WellFormed.{IsFabric};
 ghost use Rattle.fab_tables.specs.Fit.{PlanFits};
-ghost use Rattle.fab_drain.specs.Loads.{IsAdmitted};
+ghost use Rattle.fab_certify.specs.Certificate.{IsSoundPlan};
 ghost use Rattle.fab_drain.specs.Fills.{IsFilling};
 ghost use Rattle.fab_top.specs.Answers.{IsDrainAnswer};
 ghost use Rattle.fab_top.specs.Headline.{DrainsTruly};
@@ -31,7 +31,7 @@ fn drained_from(
 ) -> Result<Outcome, Stop>
     requires fabric { IsFabric fabric.now }
     requires fits { PlanFits fabric.now plan.now }
-    requires admitted { IsAdmitted fabric.now plan.now }
+    requires admitted { IsSoundPlan fabric.now plan.now }
     requires filling { IsFilling fabric.now plan.now load.old }
     ensures { FindsRightly (IsDrainAnswer fabric.now plan.now) (DrainsTruly fabric.now plan.now) result }
 {
