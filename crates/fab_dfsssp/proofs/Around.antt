@@ -83,71 +83,6 @@ module _ (g : EdgeList) (end : ℕ) (near : List ℕ) where
         none = λ not closed. all.others end (suc closed.0) not (omega arith, closed.1);
       }
 
--- ---- the ring
-
-module _ (g : EdgeList) (e : CountedEdges) (whole : IsWhole e) (lists : IsListing g e) (first : ℕ) (near : List ℕ) (are : AreNearAround g first near) where
-  abbrev R : ℕ → ℕ → Type 0
-  R = IsEdge g.edges
-
-  pub near_low : (a : ℕ) → 0 < near_of near a → a < g.nodes
-  near_low a has = elim (cases_lt a g.nodes) [ inl low ↦ low | inr past ↦ absurd (omega (arith, has, get_or_past {X = ℕ} near a 0 (omega (arith, are.each, past)))) ]
-
-  head_there : (a b : ℕ) → R a b → 0 < times b (list_at e.heads a)
-  head_there a b edge = whole.heads.there a b ((lists.same a b).0 edge)
-
-  head_edge : (a b : ℕ) → 0 < times b (list_at e.heads a) → R a b
-  head_edge a b h = (lists.same a b).1 (whole.heads.only a b h)
-
-  -- the number of a node that is near enough is its nearness
-  number_is : (a n : ℕ) → n ≤ near_of near first → IsNearness R first a n → near_of near a ≡ n
-  number_is a n few nearest =
-      let has : (0 < near_of near a) × (near_of near a ≤ n) = are.found a n nearest.holds.0 few nearest.holds.1 in
-      Graphs.one_least (Returns R first a) (near_of near a) n (are.right a has.0) nearest
-
-  pub ring_begins : 0 < near_of near first → IsRingSoFar g.edges first near (first ∷ []) first (near_of near first)
-  ring_begins closed = record { at = refl; some = closed; front = []; is = refl; returns = λ rest r. r; begins = ([], refl) }
-
-  module _ (node distance : ℕ) (at : near_of near node ≡ suc distance) (some : 0 < distance) (few : suc distance ≤ near_of near first) where
-    nearest_node : IsNearness R first node (suc distance)
-    nearest_node = subst (λ n. IsNearness R first node n) at (are.right node (omega (arith, at)))
-
-    -- a successor is one nearer
-    pub some_nearer : (a : ℕ) × StandsAtDistance (list_at e.heads node) near distance a
-    some_nearer =
-        let walk : (c : ℕ) × R node c × Walk R distance c first = nearest_node.holds.1 in
-        let has : (0 < near_of near walk.0) × (near_of near walk.0 ≤ distance) = are.found walk.0 distance some (omega (arith, few)) walk.2 in
-        let nearest : IsNearness R first walk.0 (near_of near walk.0) = are.right walk.0 has.0 in (
-          walk.0,
-          (head_there node walk.0 walk.1, omega (arith, has.1, nearest_node.least (suc (near_of near walk.0)) (omega arith, (walk.0, walk.1, nearest.holds.1)))),
-        )
-
-    least_nearer : (b : ℕ) → IsLeast (StandsAtDistance (list_at e.heads node) near distance) b → IsLeast (IsNearer R first node distance) b
-    least_nearer b x = record {
-      holds = (head_edge node b x.holds.0, subst (λ n. IsNearness R first b n) x.holds.1 (are.right b (omega (arith, x.holds.1, some))));
-      least = λ m nearer. x.least m (head_there node m nearer.0, number_is m distance (omega (arith, few)) nearer.1);
-    }
-
-    pub ring_goes_on : (ring : List ℕ) (b : ℕ) → IsRingSoFar g.edges first near ring node (suc distance) → IsLeast (StandsAtDistance (list_at e.heads node) near distance) b → IsRingSoFar g.edges first near (ring ++ b ∷ []) b distance
-    ring_goes_on ring b so_far x = record {
-      at = x.holds.1;
-      some = some;
-      front = ring;
-      is = refl;
-      returns = λ rest r. subst (λ (ns : List ℕ). ReturnsByLeast R first ns) (joined rest) (so_far.returns (b ∷ rest) (distance, some, nearest_node, least_nearer b x, r));
-      begins = (so_far.begins.0 ++ b ∷ [], ap (λ (ns : List ℕ). ns ++ b ∷ []) so_far.begins.1);
-    }
-      where
-        joined : (rest : List ℕ) → so_far.front ++ node ∷ b ∷ rest ≡ ring ++ b ∷ rest
-        joined rest = sym (append_assoc so_far.front (node ∷ []) (b ∷ rest)) ∙ ap (λ (ns : List ℕ). ns ++ b ∷ rest) (sym so_far.is)
-
-  -- from a node of nearness 1 an edge leads back
-  pub ring_ends : (ring : List ℕ) (node distance : ℕ) → IsRingSoFar g.edges first near ring node distance → distance ≤ 1 → (rest : List ℕ) × (ring ≡ first ∷ rest) × ReturnsByLeast R first (first ∷ rest)
-  ring_ends ring node distance so_far low =
-      let one : near_of near node ≡ 1 = omega (arith, so_far.at, so_far.some, low) in
-      let last : IsNearness R first node 1 = subst (λ n. IsNearness R first node n) one (are.right node (omega (arith, one))) in
-      let all : ReturnsByLeast R first (so_far.front ++ node ∷ []) = so_far.returns [] last in
-      (so_far.begins.0, so_far.begins.1, subst (λ (ns : List ℕ). ReturnsByLeast R first ns) (sym so_far.is ∙ so_far.begins.1) all)
-
 -- ---- whether there is one
 
 module _ (e : CountedEdges) (whole : IsWhole e) (first : ℕ) (near : List ℕ) (are : (g : EdgeList) → IsListing g e → AreNearAround g first near) where
@@ -158,16 +93,3 @@ module _ (e : CountedEdges) (whole : IsWhole e) (first : ℕ) (near : List ℕ) 
   no_ring none closed =
       let g = listing_exists e whole in
       (are g.0 g.1).none none (same_closed (λ (b c : ℕ). IsCounted e b c) (IsEdge g.0.edges) (λ b c. ((g.1.same b c).1, (g.1.same b c).0)) first closed)
-
-  pub ring_there : 0 < near_of near first → ((a : ℕ) → a < first → ¬ IsOnClosedWalk (λ (b c : ℕ). IsCounted e b c) a) → (ring : List ℕ) →
-      ((g : EdgeList) → IsListing g e → (rest : List ℕ) × (ring ≡ first ∷ rest) × ReturnsByLeast (IsEdge g.edges) first (first ∷ rest)) → IsFirstRing (λ b c. IsCounted e b c) ring
-  ring_there has before ring made =
-      let g = listing_exists e whole in
-      let nearest : IsNearness (IsEdge g.0.edges) first first (near_of near first) = (are g.0 g.1).right first has in
-      same_first_ring (IsEdge g.0.edges) (λ b c. IsCounted e b c) g.1.same ring
-      (ring_is_first g.0 first ring (closed (near_of near first) nearest.holds.0 nearest.holds.1)
-      (λ a low on. before a low (same_closed (IsEdge g.0.edges) (λ (b c : ℕ). IsCounted e b c) g.1.same a on)) (made g.0 g.1))
-    where
-      closed : (n : ℕ) → 0 < n → Walk (IsEdge (listing_exists e whole).0.edges) n first first → IsOnClosedWalk (IsEdge (listing_exists e whole).0.edges) first
-      closed zero some w = absurd (omega (arith, some))
-      closed (suc n) some w = (n, w)

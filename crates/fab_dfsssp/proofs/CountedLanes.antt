@@ -89,6 +89,11 @@ module _ (t : Topology) (e : Entries) (lane : ℕ) (edge : ℕ × ℕ) (old new 
   still_no_ring channel none a low closed =
       none a low (closed.0, walk_in (λ (c d : ℕ). IsEdgeAtLevel t e new lane c d) (λ (c d : ℕ). IsEdgeAtLevel t e old lane c d) edge_before (suc closed.0) a a closed.1)
 
+  -- and none is counted that was not
+  pub counted_before : (more fewer : CountedEdges) → LanesFit t old → LanesFit t new → CountsLane t e old lane more → CountsLane t e new lane fewer → (c d : ℕ) → IsCounted fewer c d → IsCounted more c d
+  counted_before more fewer fits still was is c d counted =
+      (counted_edges t e old lane more was fits c d).1 (edge_before c d ((counted_edges t e new lane fewer is still c d).0 counted))
+
 -- at first no channel is asked for, then one more, and at last all
 pub no_ring_at_first : (t : Topology) (e : Entries) (l : LaneTables) (lane : ℕ) → HasNoRingBelow t e l lane 0
 no_ring_at_first t e l lane a low closed = absurd (omega (arith, low))

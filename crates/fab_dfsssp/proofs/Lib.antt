@@ -18,6 +18,7 @@ pub mod FirstChannels
 pub mod PathsOver
 pub mod Counting
 pub mod Around
+pub mod KeptNear
 pub mod Releveling
 pub mod PathCounts
 pub mod LevelsLeft

@@ -9,9 +9,9 @@
 //!
 //! The edges of a lane are counted once, when its turn comes, and lowered as paths leave it. The least channel on a
 //! closed walk never falls within a lane, since the lane only loses edges; so channel after channel is looked at, and the
-//! rings through it are broken until it is on none. A ring takes a search back from its first channel, as far as the ring
-//! is long, and what moving the paths over its weakest edge takes. Memory: that of the plan, of one lane's edges, and of the
-//! paths over one edge.
+//! rings through it are broken until it is on none. Rings of one length through a channel share a search back from it, as
+//! far as they are long; a ring takes a step for each edge that leaves its channels, and what moving the paths over its
+//! weakest edge takes. Memory: that of the plan, of one lane's edges, and of the paths over one edge.
 ghost use Rattle.std.specs.Prelude.{◌≡◌, ◌+◌, ◌<◌, ◌≤◌, length, IfOk, IfErr, OnOk};
 ghost use Rattle.fab_model.specs.WellFormed.{IsFabric};
 ghost use Rattle.fab_tables.specs.Certified.{IsCertified};
@@ -27,6 +27,7 @@ use crate::counted_edges::CountedEdges;
 use crate::lane_edges::lane_edges;
 use crate::least_edge::weakest_edge;
 use crate::moving::move_paths;
+use crate::nearness::nearness;
 use crate::numbered::numbered_plan;
 use crate::ring_search::ring_through;
 use crate::starting::start_lanes;
@@ -139,7 +140,8 @@ fn break_rings(
     ensures below { OnOk result (HasNoRingBelow fabric.now tables.now lanes.new lane (channel + 1)) }
     ensures refusal { IfErr result (EndsAtRing fabric.now tables.now lanes.old.count) }
 {
-    while let Some(ring) = ring_through(alloc, edges, channel)? {
+    let mut near = nearness(alloc, edges, channel)?;
+    while let Some(ring) = ring_through(alloc, edges, channel, &mut near)? {
         if lane + 1 == lanes.count() {
             return Err(BreakFault::NeedsLane { ring });
         }

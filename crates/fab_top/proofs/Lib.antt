@@ -20,8 +20,12 @@ pub mod Draining
 pub mod NamedGroups
 pub mod Spreading
 pub mod Sweeping
+pub mod Replying
 pub mod Answering
 pub mod TheHeadline
 pub mod TextLengths
 mod Examples
 pub mod RootWords
+mod UpDownReplies
+mod LayeredReplies
+mod NueReplies

@@ -15,7 +15,7 @@ use Rattle.fab_sweep.specs.declared.Failing.{Failing}
 use Rattle.fab_top.specs.declared.command.Engine.{Engine}
 use Rattle.fab_top.specs.Engines.{IsLaneCount, HasLaneCount}
 use Rattle.fab_top.specs.declared.command.Command.{Command}
-use Rattle.fab_top.specs.declared.command.Command.TheVariants.{Check, Route, Certify, Convert, Repair, Cut, Load, Gen, Demo, Transit, Drain, Mcast, Spread, Sweep}
+use Rattle.fab_top.specs.declared.command.Command.TheVariants.{Check, Route, Certify, Convert, Repair, Cut, Load, Gen, Demo, Transit, Drain, Mcast, Spread, Sweep, Replies}
 use Rattle.fab_top.specs.Ran.{files_of}
 use Rattle.fab_top.specs.Words.{texts, is_file, named, number_in, kinds, two_files, recipe_of, recipe_in, lid_in, group_in, flagged_lanes, are_three_files, repair_words, show_from_to, show_words, gen_words, engine_in, asked_behind, asked_by, route_words, demo_words, transit_words, spread_words, failings, sweep_words, commands, command_of}
 use Rattle.fab_top.proofs.LowNumbers.{number_is_low}
@@ -261,7 +261,10 @@ all_right = (
                       transit_within,
                       (
                         two_within (λ f p. Drain f p) (record { places = both_places; asks = record { recipe = tt; lanes = tt } }),
-                        (two_within (λ f g. Mcast f g) (record { places = both_places; asks = record { recipe = tt; lanes = tt } }), (spread_within, (sweep_within, tt))),
+                        (
+                          two_within (λ f g. Mcast f g) (record { places = both_places; asks = record { recipe = tt; lanes = tt } }),
+                          (spread_within, (sweep_within, (two_within (λ f p. Replies f p) (record { places = both_places; asks = record { recipe = tt; lanes = tt } }), tt))),
+                        ),
                       ),
                     ),
                   ),

@@ -34,12 +34,15 @@ use Rattle.fab_drain.specs.Drains.{EndsAs}
 use Rattle.fab_mcast.specs.GroupList.{Group}
 use Rattle.fab_mcast.specs.GroupTrees.{Planted, ArePlanted, entries_at}
 use Rattle.fab_mcast.specs.Spreads.{IsSpread}
+use Rattle.fab_replies.specs.declared.replied.Replied.{Replied}
+use Rattle.fab_replies.specs.declared.replied.Replied.TheVariants as replied
+use Rattle.fab_replies.specs.Answers as replying
 use Rattle.fab_sweep.specs.declared.Failing.{Failing}
 use Rattle.fab_sweep.specs.declared.rows.SweepRow.{SweepRow}
 use Rattle.fab_sweep.specs.Sweeps.{AreSweepRows}
 use Rattle.fab_top.specs.declared.command.Engine.{Engine}
 use Rattle.fab_top.specs.declared.command.Command.{Command}
-use Rattle.fab_top.specs.declared.command.Command.TheVariants.{Check, Route, Certify, Convert, Repair, Cut, Show, Load, Gen, Demo, Transit, Drain, Mcast, Spread, Sweep}
+use Rattle.fab_top.specs.declared.command.Command.TheVariants.{Check, Route, Certify, Convert, Repair, Cut, Show, Load, Gen, Demo, Transit, Drain, Mcast, Spread, Sweep, Replies}
 use Rattle.fab_top.specs.Words.{command_of}
 use Rattle.fab_top.specs.Usage.{usage_text}
 use Rattle.fab_top.specs.Answer.{Answer, done, no}
@@ -49,6 +52,7 @@ use Rattle.fab_top.specs.Files.{known_place, known_group, known_member, members_
 use Rattle.fab_top.specs.GroupTexts.{groups_text, spread_text}
 use Rattle.fab_top.specs.ChangeTexts.{mixed_text}
 use Rattle.fab_top.specs.DrainTexts.{drained_text, waiting_text}
+use Rattle.fab_top.specs.ReplyTexts.{replied_text}
 use Rattle.fab_top.specs.ReportTexts.{kept_text, load_text, summary_text, sweep_text}
 use Rattle.fab_top.specs.Seen.{Seen, After, WithFabric, WithPlan, WithBoth, WithoutFailed, WithGroups}
 
@@ -197,6 +201,19 @@ IsSpreadAnswer group lid t groups answer = AfterMember group lid t groups (IsSpr
 abbrev pub IsSweepAnswer : Failing → ℕ → Topology → Plan → Answer → Type 0
 IsSweepAnswer what lanes t p answer = (rows : List SweepRow) × AreSweepRows t p lanes what rows × (answer ≡ done (sweep_text t rows))
 
+-- ---- replies
+
+-- what is said of replies: numbers on the output, a fault or a ring on the error output
+abbrev pub told_replies : Replied → List ℕ → Answer
+told_replies (replied.Numbers l) text = done text
+told_replies other text = no text
+
+abbrev pub replies_answer : Topology → Plan → Replied → Answer
+replies_answer t p told = told_replies told (replied_text t (lane_count p.lanes) told)
+
+abbrev pub IsRepliesAnswer : Topology → Plan → Answer → Type 0
+IsRepliesAnswer t p answer = (told : Replied) × replying.IsAnswerTo t p told × (answer ≡ replies_answer t p told)
+
 -- ---- by command
 
 abbrev pub IsAnswerTo : Seen → Command → Answer → Type 0
@@ -215,6 +232,7 @@ IsAnswerTo w (Drain fabric plan) answer = WithBoth w fabric plan IsDrainAnswer a
 IsAnswerTo w (Mcast fabric groups) answer = WithFabric w fabric (λ t. WithGroups w t groups (IsMcastAnswer t)) answer
 IsAnswerTo w (Spread fabric groups group from) answer = WithFabric w fabric (λ t. WithGroups w t groups (IsSpreadAnswer group from.0 t)) answer
 IsAnswerTo w (Sweep what fabric plan lanes) answer = WithBoth w fabric plan (IsSweepAnswer what lanes) answer
+IsAnswerTo w (Replies fabric plan) answer = WithBoth w fabric plan IsRepliesAnswer answer
 
 abbrev pub usage : Answer
 usage = record { status = 2; out = []; err = usage_text }

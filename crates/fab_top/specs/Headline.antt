@@ -28,12 +28,15 @@ use Rattle.fab_drain.specs.Fills.{IsFilling}
 use Rattle.fab_mcast.specs.GroupList.{Group}
 use Rattle.fab_mcast.specs.GroupTrees.{Planted}
 use Rattle.fab_mcast.specs.Spreads.{IsSpread, IsOtherMember, ReachesMembers}
+use Rattle.fab_replies.specs.Replies.{DependsJointly}
+use Rattle.fab_replies.specs.Answers.{HasGoodReplies}
+use Rattle.fab_replies.specs.Covered.{Covers}
 use Rattle.fab_sweep.specs.declared.Failing.{Failing}
 use Rattle.fab_sweep.specs.Sweeps.{AreRepairsCertified}
 use Rattle.fab_top.specs.declared.command.Engine.{Engine}
 use Rattle.fab_top.specs.declared.command.Engine.TheVariants.{Nue}
 use Rattle.fab_top.specs.declared.command.Command.{Command}
-use Rattle.fab_top.specs.declared.command.Command.TheVariants.{Check, Route, Certify, Convert, Repair, Cut, Show, Load, Gen, Demo, Transit, Drain, Mcast, Spread, Sweep}
+use Rattle.fab_top.specs.declared.command.Command.TheVariants.{Check, Route, Certify, Convert, Repair, Cut, Show, Load, Gen, Demo, Transit, Drain, Mcast, Spread, Sweep, Replies}
 use Rattle.fab_top.specs.Words.{command_of}
 use Rattle.fab_top.specs.Answer.{Answer, done}
 use Rattle.fab_top.specs.Answers.{IsAnswer, repaired, change_of, members_by_group, AfterMember}
@@ -42,6 +45,7 @@ use Rattle.fab_top.specs.Files.{fabric_limit, fabric_in, plan_in, failed_in, wit
 use Rattle.fab_top.specs.GroupTexts.{groups_text, spread_text}
 use Rattle.fab_top.specs.ChangeTexts.{transit_text}
 use Rattle.fab_top.specs.DrainTexts.{drained_text}
+use Rattle.fab_top.specs.ReplyTexts.{replies_text}
 use Rattle.fab_top.specs.ReportTexts.{summary_text}
 use Rattle.fab_top.specs.Texts.{ok_routes, ok_lanes}
 use Rattle.fab_top.specs.Seen.{Seen, Content, After, WithFabric, WithPlan, WithBoth, WithoutFailed, WithGroups, word_at}
@@ -271,6 +275,25 @@ pub record SpreadsTruly (t : Topology) (groups : List Group) (index from : ℕ) 
 abbrev pub SweepsTruly : Failing → ℕ → Topology → Plan → Answer → Type 0
 SweepsTruly what lanes t p answer = Done answer × AreRepairsCertified t p lanes what
 
+-- ---- replies
+
+-- With the lanes with which the plan is read its routes reach, each source has a level for each LID connected to it, every lane that packets or
+-- replies use is below the count, and no ring of virtual channels waits for itself along packets and replies.
+abbrev pub CanBeCovered : Topology → Plan → Type 0
+CanBeCovered t p =
+    (l : LaneTables) × AreReadLanes t p.lanes l × IsSound t p.tables l × HasGoodReplies t p.tables l × IsAcyclic (DependsJointly t p.tables l)
+
+-- the text is that of numbers that cover packets and replies: they rise along both, and no packets and replies wait for each other
+abbrev pub IsCovered : Topology → Plan → List ℕ → Type 0
+IsCovered t p text = (new : LaneTables) × Covers t p new × (text ≡ replies_text t new)
+
+-- It is done exactly where packets and replies can be covered, and then numbers that cover them are told. Where it isn't done, nothing is on the
+-- output.
+pub record RepliesTruly (t : Topology) (p : Plan) (answer : Answer) : Type 0 where
+  pub done : Done answer ↔ CanBeCovered t p
+  pub covered : Done answer → IsCovered t p answer.out
+  pub nothing : ¬ Done answer → answer.out ≡ []
+
 -- by command
 abbrev pub KeepsHeadlineOf : Seen → Command → Answer → Type 0
 KeepsHeadlineOf w (Check fabric plan) answer = WithBoth w fabric plan ChecksTruly answer
@@ -289,6 +312,7 @@ KeepsHeadlineOf w (Mcast fabric groups) answer = WithFabric w fabric (λ t. With
 KeepsHeadlineOf w (Spread fabric groups group from) answer =
     WithFabric w fabric (λ t. WithGroups w t groups (λ listed. AfterMember group from.0 t listed (SpreadsTruly t listed))) answer
 KeepsHeadlineOf w (Sweep what fabric plan lanes) answer = WithBoth w fabric plan (SweepsTruly what lanes) answer
+KeepsHeadlineOf w (Replies fabric plan) answer = WithBoth w fabric plan RepliesTruly answer
 
 abbrev pub KeepsHeadline : Seen → Answer → Type 0
 KeepsHeadline w answer = MatchOption (command_of w.words) (Unit {0}) (λ command. KeepsHeadlineOf w command answer)

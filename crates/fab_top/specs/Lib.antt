@@ -7,6 +7,7 @@ pub mod Texts
 pub mod ReportTexts
 pub mod ChangeTexts
 pub mod DrainTexts
+pub mod ReplyTexts
 pub mod GroupTexts
 pub mod FaultTexts
 pub mod Files
@@ -18,3 +19,4 @@ pub mod Taking
 pub mod Ran
 pub mod Outcomes
 pub mod Laws
+pub mod EngineReplies

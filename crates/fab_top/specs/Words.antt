@@ -16,6 +16,7 @@
 --     mcast FABRIC GROUPS
 --     spread FABRIC GROUPS GROUP LID
 --     sweep cables|switches FABRIC PLAN --lanes N
+--     replies FABRIC PLAN
 -- A file's word is not empty and does not begin with two dashes. A file is named by the place of its word. Numbers are
 -- decimal, without leading zeros. A LID is a decimal number, or `0x` and 1 to 4 hexadecimal digits. A GUID is `0x` and 1 to 16
 -- hexadecimal digits, a GROUP is `0x` and 4. N is a lane count, 1 to 15, and 0 in a demonstration of an engine that takes none.
@@ -222,6 +223,7 @@ commands =
     ∷ (codes "mcast", two_files command.Mcast)
     ∷ (codes "spread", spread_words)
     ∷ (codes "sweep", sweep_words)
+    ∷ (codes "replies", two_files command.Replies)
     ∷ []
 
 -- the command that the words spell, if they are in the grammar

@@ -14,7 +14,11 @@ use fab_transit::{Mixed, Side};
 use std::alloc::{AllocError, Global};
 
 /// The numbers of all channels.
-fn push_all_numbers(to: &mut Vec<u8>, fabric: &Fabric, lanes: &Lanes) -> Result<(), AllocError>
+pub(crate) fn push_all_numbers(
+    to: &mut Vec<u8>,
+    fabric: &Fabric,
+    lanes: &Lanes,
+) -> Result<(), AllocError>
     requires fabric { IsFabric fabric.now }
     requires channels { lanes.now.channels ≡ length fabric.now.channels }
     ensures { OnOk result (to.new.items ≡ to.old.items ++ flat_map (numbers_text fabric.now lanes.now) (enumerate_from 0 fabric.now.channels)) }

@@ -112,4 +112,9 @@ pub enum Command {
         plan: usize,
         lanes: u8,
     },
+    /// Whether the answers to a plan's packets keep an order with them too, on numbers or in a ring.
+    Replies {
+        fabric: usize,
+        plan: usize,
+    },
 }

@@ -1,5 +1,9 @@
 //! The laws of answers, claimed. They say of words and contents, with no code: that there is an answer, and one alone,
-//! that it keeps what the program promises, that its status is small, and the headline.
+//! that it keeps what the program promises, that its status is small, and the headline. And of three engines that the
+//! answers to packets of their plans have numbers: an up/down route never goes down and then up, from whichever switch it
+//! begins; a layer holds the routes between two switches both ways; the one lane of Nue holds whole trees. So no answer
+//! turns as no packet may.
+ghost use Rattle.fab_top.specs.EngineReplies.{UpDownRepliesAreNumbered, LayeredRepliesAreNumbered, NueRepliesAreNumbered};
 ghost use Rattle.fab_top.specs.Headline.{Headline};
 ghost use Rattle.fab_top.specs.Laws.{AnswerExists, OneAnswer, AnswersKeepHeadline, StatusIsSmall};
 
@@ -28,4 +32,19 @@ pub fn status_is_small()
 /// Nue and repair refuse no fabric.
 pub fn headline()
     ensures { Headline }
+{}
+
+/// Packets of an up/down plan and the replies to them have numbers.
+pub fn up_down_replies_are_numbered()
+    ensures { UpDownRepliesAreNumbered }
+{}
+
+/// Packets of a layered plan and the replies to them have numbers.
+pub fn layered_replies_are_numbered()
+    ensures { LayeredRepliesAreNumbered }
+{}
+
+/// Packets of a plan of Nue on one lane and the replies to them have numbers, where nothing was kept.
+pub fn nue_replies_are_numbered()
+    ensures { NueRepliesAreNumbered }
 {}

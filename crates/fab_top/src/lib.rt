@@ -19,6 +19,7 @@ mod outcome;
 mod outputs;
 #[cfg(test)]
 mod outside_tests;
+mod reply_texts;
 mod report_texts;
 mod routing;
 mod sweep_texts;
@@ -31,6 +32,9 @@ mod words;
 
 pub use command::{Command, Engine};
 pub use guid_list::GuidList;
-pub use laws::{answer_exists, answers_keep_headline, headline, one_answer, status_is_small};
+pub use laws::{
+    answer_exists, answers_keep_headline, headline, layered_replies_are_numbered,
+    nue_replies_are_numbered, one_answer, status_is_small, up_down_replies_are_numbered,
+};
 pub use top_call::run;
 pub use words::{WordsFault, read_words};

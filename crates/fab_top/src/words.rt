@@ -318,6 +318,7 @@ fn command_of(alloc: Global, words: &[String]) -> Result<Option<Command>, AllocE
         "mcast" => Ok(mcast_words(others)),
         "spread" => Ok(spread_words(others)),
         "sweep" => Ok(sweep_words(others)),
+        "replies" => Ok(on_two_files(others, Command::Replies { fabric: 1, plan: 2 })),
         _ => Ok(None),
     }
 }

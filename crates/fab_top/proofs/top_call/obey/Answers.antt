@@ -101,6 +101,12 @@ sweep-requires-clause-plan g c = (is_spelled c.args.words.now _ _ c.requires c.i
 pub sweep-requires-clause-lanes : goal.sweep-requires-clause-lanes
 sweep-requires-clause-lanes g c = (is_spelled c.args.words.now _ _ c.requires c.in-Sweep.is).asks.lanes
 
+pub replies-requires-clause-fabric : goal.replies-requires-clause-fabric
+replies-requires-clause-fabric g c = (is_spelled c.args.words.now _ _ c.requires c.in-Replies.is).places.0
+
+pub replies-requires-clause-plan : goal.replies-requires-clause-plan
+replies-requires-clause-plan g c = (is_spelled c.args.words.now _ _ c.requires c.in-Replies.is).places.1.0
+
 pub returns-in-Gen : goal.returns-in-Gen
 returns-in-Gen g c = gen_obeyed c.args.command c.in-Gen.recipe _ _ _ _ c.in-Gen.is c.generate.ensures
 
