@@ -1,4 +1,6 @@
-ghost use Rattle.std.specs.Prelude.{◌≡◌, ◌<◌, length, Contains};
+//! Two switches with a terminal at the first: a switch that answers, and a reply on a bad lane. And a ring of three switches,
+//! each with a terminal, where packets close no ring, but packets and replies do.
+ghost use Rattle.std.specs.Prelude.{◌≡◌, ◌+◌, ◌<◌, length, Contains, OnOk};
 ghost use Rattle.fab_model.specs.Records.{last_line};
 ghost use Rattle.fab_model.specs.Topology.{lids_of};
 
@@ -10,48 +12,95 @@ use std::alloc::{AllocError, Global};
 use std::process::Abort;
 use std::test::Fail;
 
-fn node(line: u32, kind: NodeKind, guid: u64, lid: u32) -> RawNode
-    ensures { result.line ≡ line }
+/// A cable by its ends, each a node and a port there.
+type Cable = ((u32, u32), (u32, u32));
+
+const TWO_SWITCHES: [Cable; 2] = [((0, 1), (1, 1)), ((0, 2), (2, 1))];
+
+// Port 1 leads to the next switch, port 2 to the one before, and port 3 to the terminal. Channel 2s leads from switch s to
+// the next one.
+const RING_OF_THREE: [Cable; 6] = [
+    ((0, 1), (1, 2)),
+    ((1, 1), (2, 2)),
+    ((2, 1), (0, 2)),
+    ((0, 3), (3, 1)),
+    ((1, 3), (4, 1)),
+    ((2, 3), (5, 1)),
+];
+
+fn kind_of(node: u32, switches: u32) -> NodeKind {
+    if node < switches {
+        NodeKind::Switch
+    } else {
+        NodeKind::Adapter
+    }
+}
+
+// The next node, on the line of its number.
+fn push_node(raw: &mut Raw, number: u32, switches: u32) -> Result<(), AllocError>
+    requires line { last_line raw.old < number }
+    requires small { 0 < number }
+    ensures line { OnOk result (last_line raw.new ≡ number) }
+    ensures nodes { OnOk result (length raw.new.nodes ≡ length raw.old.nodes + 1) }
 {
-    RawNode {
-        line,
-        kind,
-        guid,
-        ports: 4,
-        lid,
+    raw.push_node(RawNode {
+        line: number,
+        kind: kind_of(number - 1, switches),
+        guid: u64::from(number),
+        ports: 3,
+        lid: number,
         lmc: 0,
         desc: Desc::new(b""),
-    }
+    })
 }
 
-fn link(line: u32, node: u32, port: u32, far: (NodeKind, u64, u32), lid: u32) -> RawLink
-    ensures line { result.line ≡ line }
-    ensures node { result.node ≡ node }
+// One end of a cable, as it is stated on this line.
+fn push_end(
+    raw: &mut Raw,
+    line: u32,
+    switches: u32,
+    near: (u32, u32),
+    far: (u32, u32),
+) -> Result<(), AllocError>
+    requires line { last_line raw.old < line }
+    requires node { near.0 < length raw.old.nodes }
+    requires small { near.0 < 100 }
+    ensures line { OnOk result (last_line raw.new ≡ line) }
+    ensures nodes { OnOk result (raw.new.nodes ≡ raw.old.nodes) }
 {
-    let (far_kind, far_guid, far_port) = far;
-    RawLink {
+    raw.push_link(RawLink {
         line,
-        node,
-        port,
-        far_kind,
-        far_guid,
-        far_port,
+        node: near.0,
+        port: near.1,
+        far_kind: kind_of(far.0, switches),
+        far_guid: u64::from(far.0) + 1,
+        far_port: far.1,
         port_guid: 0,
-        lid,
+        lid: near.0 + 1,
         lmc: 0,
-    }
+    })
 }
 
-// Switches 0 and 1 with LIDs 1 and 2, port 1 cabled to port 1, and a terminal with LID 3 at port 2 of switch 0.
-fn two_in_a_line(alloc: Global) -> Result<Fabric, Fail> {
+// Of so many nodes the first are switches. A node's GUID and its LID are its number, counted from 1.
+fn fabric_of(
+    rt: &impl Abort,
+    alloc: Global,
+    switches: u32,
+    nodes: u32,
+    cables: &[Cable],
+) -> Result<Fabric, Fail> {
+    assert!(rt; nodes < 100);
     let mut raw = Raw::new(alloc);
-    raw.push_node(node(1, NodeKind::Switch, 0x10, 1))?;
-    raw.push_link(link(2, 0, 1, (NodeKind::Switch, 0x11, 1), 0))?;
-    raw.push_link(link(3, 0, 2, (NodeKind::Adapter, 0x20, 1), 0))?;
-    raw.push_node(node(4, NodeKind::Switch, 0x11, 2))?;
-    raw.push_link(link(5, 1, 1, (NodeKind::Switch, 0x10, 1), 0))?;
-    raw.push_node(node(6, NodeKind::Adapter, 0x20, 0))?;
-    raw.push_link(link(7, 2, 1, (NodeKind::Switch, 0x10, 2), 3))?;
+    for node in 0..nodes {
+        push_node(&mut raw, node + 1, switches)?;
+    }
+    let mut line = nodes;
+    for (one, other) in cables {
+        assert!(rt; one.0 < nodes && other.0 < nodes && line < 100);
+        push_end(&mut raw, line + 1, switches, *one, *other)?;
+        push_end(&mut raw, line + 2, switches, *other, *one)?;
+        line += 2;
+    }
     Ok(Fabric::build(alloc, &raw)?)
 }
 
@@ -83,7 +132,7 @@ fn plan_on(rt: &impl Abort, alloc: Global, fabric: &Fabric) -> Result<Plan, Allo
 
 #[test]
 fn a_switch_that_answers_is_numbered(rt: HostRuntime) -> Result<(), Fail> {
-    let fabric = two_in_a_line(rt.alloc())?;
+    let fabric = fabric_of(&rt, rt.alloc(), 2, 3, &TWO_SWITCHES)?;
     let plan = plan_on(&rt, rt.alloc(), &fabric)?;
     assert!(rt; plan.fits(&fabric));
     let lanes = match replies(rt.alloc(), &fabric, &plan)? {
@@ -122,7 +171,7 @@ fn set_lane(rt: &impl Abort, fabric: &Fabric, plan: &mut Plan, switch: u32) {
 
 #[test]
 fn a_reply_has_a_bad_lane(rt: HostRuntime) -> Result<(), Fail> {
-    let fabric = two_in_a_line(rt.alloc())?;
+    let fabric = fabric_of(&rt, rt.alloc(), 2, 3, &TWO_SWITCHES)?;
     let mut plan = plan_on(&rt, rt.alloc(), &fabric)?;
     plan.lanes = Some(Lanes::new(rt.alloc(), &fabric, 1)?);
     for index in 0..3 {
@@ -135,38 +184,6 @@ fn a_reply_has_a_bad_lane(rt: HostRuntime) -> Result<(), Fail> {
         _ => None,
     };
     assert_eq!(rt; fault, Some((Lid(3), Lid(2), SwitchId(1))));
-    Ok(())
-}
-
-// Switches 0, 1 and 2 with LIDs 1, 2 and 3. Port 1 of each is cabled to port 2 of the next, and port 3 to a
-// port of one adapter, with LIDs 4, 5 and 6.
-fn three_in_a_ring(alloc: Global) -> Result<Fabric, Fail> {
-    let mut raw = Raw::new(alloc);
-    raw.push_node(node(1, NodeKind::Switch, 0x10, 1))?;
-    raw.push_link(link(2, 0, 1, (NodeKind::Switch, 0x11, 2), 0))?;
-    raw.push_link(link(3, 0, 2, (NodeKind::Switch, 0x12, 1), 0))?;
-    raw.push_link(link(4, 0, 3, (NodeKind::Adapter, 0x20, 1), 0))?;
-    raw.push_node(node(5, NodeKind::Switch, 0x11, 2))?;
-    raw.push_link(link(6, 1, 1, (NodeKind::Switch, 0x12, 2), 0))?;
-    raw.push_link(link(7, 1, 2, (NodeKind::Switch, 0x10, 1), 0))?;
-    raw.push_link(link(8, 1, 3, (NodeKind::Adapter, 0x20, 2), 0))?;
-    raw.push_node(node(9, NodeKind::Switch, 0x12, 3))?;
-    raw.push_link(link(10, 2, 1, (NodeKind::Switch, 0x10, 2), 0))?;
-    raw.push_link(link(11, 2, 2, (NodeKind::Switch, 0x11, 1), 0))?;
-    raw.push_link(link(12, 2, 3, (NodeKind::Adapter, 0x20, 3), 0))?;
-    push_adapter(&mut raw)?;
-    Ok(Fabric::build(alloc, &raw)?)
-}
-
-// The adapter of three_in_a_ring.
-fn push_adapter(raw: &mut Raw) -> Result<(), AllocError>
-    requires line { last_line raw.old < 13 }
-    requires node { length raw.old.nodes ≡ 3 }
-{
-    raw.push_node(node(13, NodeKind::Adapter, 0x20, 0))?;
-    raw.push_link(link(14, 3, 1, (NodeKind::Switch, 0x10, 3), 4))?;
-    raw.push_link(link(15, 3, 2, (NodeKind::Switch, 0x11, 3), 5))?;
-    raw.push_link(link(16, 3, 3, (NodeKind::Switch, 0x12, 3), 6))?;
     Ok(())
 }
 
@@ -217,7 +234,7 @@ fn round_the_ring(rt: &impl Abort, alloc: Global, fabric: &Fabric) -> Result<Pla
 // do: it asks at level 0.
 #[test]
 fn replies_close_a_ring(rt: HostRuntime) -> Result<(), Fail> {
-    let fabric = three_in_a_ring(rt.alloc())?;
+    let fabric = fabric_of(&rt, rt.alloc(), 3, 6, &RING_OF_THREE)?;
     let plan = round_the_ring(&rt, rt.alloc(), &fabric)?;
     assert!(rt; plan.fits(&fabric));
     let certified = certify(rt.alloc(), &fabric, &plan)?;
