@@ -18,10 +18,10 @@ use Rattle.fab_netdiscover.specs.Writing.{text_of}
 use Rattle.fab_report.specs.Loads.{loads_of}
 use Rattle.fab_report.specs.Recipes.{generated}
 use Rattle.fab_top.specs.declared.command.Command.{Command}
-use Rattle.fab_top.specs.declared.command.Command.TheVariants.{Check, Route, Certify, Convert, Repair, Cut, Show, Load, Gen, Demo, Transit, Drain, Mcast, Spread, Sweep, Replies}
+use Rattle.fab_top.specs.declared.command.Command.TheVariants.{Check, Route, Certify, Convert, Repair, Cut, Show, Load, Gen, Demo, Transit, Drain, Mcast, Spread, Sweep, Export, Replies}
 use Rattle.fab_top.specs.Answer.{Answer, done}
-use Rattle.fab_top.specs.Answers.{IsAnswerTo, IsCheckAnswer, IsRouteAnswer, IsCertifyAnswer, IsPlanText, IsShowAnswer, IsLoadAnswer, IsDrainAnswer, IsSweepAnswer, IsRepliesAnswer, verdict_answer, certified_answer, usage}
-use Rattle.fab_top.specs.Headline.{KeepsHeadlineOf, ChecksTruly, RoutesTruly, CertifiesTruly, ConvertsTruly, ShowsTruly, IsDone, DrainsTruly, SweepsTruly, RepliesTruly}
+use Rattle.fab_top.specs.Answers.{IsAnswerTo, IsCheckAnswer, IsRouteAnswer, IsCertifyAnswer, IsPlanText, IsShowAnswer, IsLoadAnswer, IsDrainAnswer, IsSweepAnswer, IsExportAnswer, IsRepliesAnswer, verdict_answer, certified_answer, usage}
+use Rattle.fab_top.specs.Headline.{KeepsHeadlineOf, ChecksTruly, RoutesTruly, CertifiesTruly, ConvertsTruly, ShowsTruly, IsDone, DrainsTruly, SweepsTruly, ExportsTruly, RepliesTruly}
 use Rattle.fab_top.specs.Laws.{OneAnswer, AnswersKeepHeadline, StatusIsSmall, AnswerExists}
 use Rattle.fab_top.specs.Ran.{files_of}
 use Rattle.fab_top.specs.ReportTexts.{load_text}
@@ -40,6 +40,7 @@ use Rattle.fab_top.proofs.Transiting.{transit_kept, one_transit, transit_is_smal
 use Rattle.fab_top.proofs.Draining.{one_drain, drain_keeps, drain_is_small, drain_exists}
 use Rattle.fab_top.proofs.Spreading.{mcast_kept, one_mcast_to, mcast_is_small, mcast_to_exists, spread_kept, one_spread_to, spread_is_small, spread_to_exists}
 use Rattle.fab_top.proofs.Sweeping.{one_sweep, sweep_keeps, sweep_is_small, sweep_exists}
+use Rattle.fab_top.proofs.Exporting.{one_export, export_keeps, export_is_small, export_exists}
 use Rattle.fab_top.proofs.Replying.{one_replies, replies_keep, replies_is_small, replies_exist}
 use Rattle.fab_top.proofs.SpelledCommands.{CanBeDone, can_be_done}
 
@@ -145,6 +146,8 @@ one_answer_to w (Some (Spread fabric groups group from)) a b doable told first s
     one_spread_to w fabric groups group from.0 (first_told w fabric (groups ∷ []) told) (second_told w fabric groups [] told) a b first second
 one_answer_to w (Some (Sweep what fabric plan lanes)) a b doable told first second =
     both_one w fabric plan (IsSweepAnswer what lanes) a b told (λ t p read x y. one_sweep what lanes t p a b read.fabric doable.lanes x y) first second
+one_answer_to w (Some (Export of_part fabric plan)) a b doable told first second =
+    both_one w fabric plan (IsExportAnswer of_part) a b told (λ t p read x y. one_export of_part t p a b x y) first second
 one_answer_to w (Some (Replies fabric plan)) a b doable told first second =
     both_one w fabric plan IsRepliesAnswer a b told (λ t p read x y. one_replies t p a b read x y) first second
 
@@ -180,6 +183,8 @@ keeps_by w (Some (Mcast fabric groups)) a doable is = mcast_kept w fabric groups
 keeps_by w (Some (Spread fabric groups group from)) a doable is = spread_kept w fabric groups group from.0 a is
 keeps_by w (Some (Sweep what fabric plan lanes)) a doable is =
     both_weaker w fabric plan (IsSweepAnswer what lanes) (SweepsTruly what lanes) a (λ t p read x. sweep_keeps what lanes t p a read.fabric doable.lanes x) is
+keeps_by w (Some (Export of_part fabric plan)) a doable is =
+    both_weaker w fabric plan (IsExportAnswer of_part) (ExportsTruly of_part) a (λ t p read x. export_keeps of_part t p a read.fabric read.fits x) is
 keeps_by w (Some (Replies fabric plan)) a doable is = both_weaker w fabric plan IsRepliesAnswer RepliesTruly a (λ t p read x. replies_keep t p a read x) is
 
 pub answers_keep_headline : AnswersKeepHeadline
@@ -218,6 +223,7 @@ small_by w (Some (Mcast fabric groups)) a told is =
 small_by w (Some (Spread fabric groups group from)) a told is =
     spread_is_small w fabric groups group from.0 (first_told w fabric (groups ∷ []) told) (second_told w fabric groups [] told) a is
 small_by w (Some (Sweep what fabric plan lanes)) a told is = both_small w fabric plan (IsSweepAnswer what lanes) a told (λ t p x. sweep_is_small what lanes t p a x) is
+small_by w (Some (Export of_part fabric plan)) a told is = both_small w fabric plan (IsExportAnswer of_part) a told (λ t p x. export_is_small of_part t p a x) is
 small_by w (Some (Replies fabric plan)) a told is = both_small w fabric plan IsRepliesAnswer a told (λ t p x. replies_is_small t p a x) is
 
 pub status_is_small : StatusIsSmall
@@ -253,6 +259,7 @@ exists_by w (Some (Mcast fabric groups)) doable told =
 exists_by w (Some (Spread fabric groups group from)) doable told =
     spread_to_exists w fabric groups group from.0 (first_told w fabric (groups ∷ []) told) (second_told w fabric groups [] told)
 exists_by w (Some (Sweep what fabric plan lanes)) doable told = both_exist w fabric plan (IsSweepAnswer what lanes) told (λ t p read. sweep_exists what lanes t p read doable.lanes)
+exists_by w (Some (Export of_part fabric plan)) doable told = both_exist w fabric plan (IsExportAnswer of_part) told (λ t p read. export_exists of_part t p read)
 exists_by w (Some (Replies fabric plan)) doable told = both_exist w fabric plan IsRepliesAnswer told (λ t p read. replies_exist t p read)
 
 pub answer_exists : AnswerExists

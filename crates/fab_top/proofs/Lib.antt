@@ -20,6 +20,8 @@ pub mod Draining
 pub mod NamedGroups
 pub mod Spreading
 pub mod Sweeping
+pub mod UnfitTexts
+pub mod Exporting
 pub mod Replying
 pub mod Answering
 pub mod TheHeadline

@@ -11,13 +11,14 @@ use Rattle.fab_report.specs.declared.recipe.Kind.{Kind}
 use Rattle.fab_report.specs.declared.recipe.Recipe.{Recipe}
 use Rattle.fab_report.specs.Laws.{HasSeed}
 use Rattle.fab_report.specs.Recipes.{fits}
+use Rattle.fab_export.specs.declared.part.Part.{Part}
 use Rattle.fab_sweep.specs.declared.Failing.{Failing}
 use Rattle.fab_top.specs.declared.command.Engine.{Engine}
 use Rattle.fab_top.specs.Engines.{IsLaneCount, HasLaneCount}
 use Rattle.fab_top.specs.declared.command.Command.{Command}
-use Rattle.fab_top.specs.declared.command.Command.TheVariants.{Check, Route, Certify, Convert, Repair, Cut, Load, Gen, Demo, Transit, Drain, Mcast, Spread, Sweep, Replies}
+use Rattle.fab_top.specs.declared.command.Command.TheVariants.{Check, Route, Certify, Convert, Repair, Cut, Load, Gen, Demo, Transit, Drain, Mcast, Spread, Sweep, Export, Replies}
 use Rattle.fab_top.specs.Ran.{files_of}
-use Rattle.fab_top.specs.Words.{texts, is_file, named, number_in, kinds, two_files, recipe_of, recipe_in, lid_in, group_in, flagged_lanes, are_three_files, repair_words, show_from_to, show_words, gen_words, engine_in, asked_behind, asked_by, route_words, demo_words, transit_words, spread_words, failings, sweep_words, commands, command_of}
+use Rattle.fab_top.specs.Words.{texts, is_file, named, number_in, kinds, two_files, recipe_of, recipe_in, lid_in, group_in, flagged_lanes, are_three_files, repair_words, show_from_to, show_words, gen_words, engine_in, asked_behind, asked_by, route_words, demo_words, transit_words, spread_words, failings, sweep_words, part_names, export_words, commands, command_of}
 use Rattle.fab_top.proofs.LowNumbers.{number_is_low}
 use Rattle.fab_top.proofs.AskedLanes.{engine_after, asked_behind_rightly, asked_by_rightly, flagged_in_range}
 
@@ -213,6 +214,18 @@ sweep_within (a ∷ b ∷ c ∷ d ∷ []) made e = cc
 sweep_within (a ∷ b ∷ c ∷ d ∷ x ∷ []) made e = made_sweep (is_file b && is_file c) (named failings a) (flagged_lanes d x) made (flagged_in_range d x) e
 sweep_within (a ∷ b ∷ c ∷ d ∷ x ∷ y ∷ rest) made e = cc
 
+made_export : (files : Bool) (of_part : Option Part) (made : Command) → option_and_then (λ one. then_some files (Export one 2 3)) of_part ≡ Some made → IsSpelledBy 4 made
+made_export files None made e = cc
+made_export files (Some of_part) made e =
+    made_if 4 files (Export of_part 2 3) made e (record { places = (omega arith, (omega arith, tt)); asks = record { recipe = tt; lanes = tt } })
+
+export_within : SpellsRightly export_words
+export_within [] made e = cc
+export_within (a ∷ []) made e = cc
+export_within (a ∷ b ∷ []) made e = cc
+export_within (a ∷ b ∷ c ∷ []) made e = made_export (is_file b && is_file c) (named part_names a) made e
+export_within (a ∷ b ∷ c ∷ d ∷ rest) made e = cc
+
 -- ---- the table of the forms
 
 abbrev AllRight : List (List ℕ × (List (List ℕ) → Option Command)) → Type 0
@@ -263,7 +276,7 @@ all_right = (
                         two_within (λ f p. Drain f p) (record { places = both_places; asks = record { recipe = tt; lanes = tt } }),
                         (
                           two_within (λ f g. Mcast f g) (record { places = both_places; asks = record { recipe = tt; lanes = tt } }),
-                          (spread_within, (sweep_within, (two_within (λ f p. Replies f p) (record { places = both_places; asks = record { recipe = tt; lanes = tt } }), tt))),
+                          (spread_within, (sweep_within, (export_within, (two_within (λ f p. Replies f p) (record { places = both_places; asks = record { recipe = tt; lanes = tt } }), tt)))),
                         ),
                       ),
                     ),

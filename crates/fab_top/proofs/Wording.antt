@@ -9,7 +9,7 @@ use Rattle.fab_model.specs.declared.rows.Lid.{Lid}
 use Rattle.fab_model.specs.Topology.{lid_id}
 use Rattle.fab_top.specs.declared.command.Command.{Command}
 use Rattle.fab_top.specs.declared.command.Command.TheVariants.{Show}
-use Rattle.fab_top.specs.Words.{texts, is_file, lid_in, named, kinds, repair_words, transit_words, show_from_to, show_words, gen_words, route_words, demo_words, spread_words, failings, sweep_words, command_of, commands}
+use Rattle.fab_top.specs.Words.{texts, is_file, lid_in, named, kinds, repair_words, transit_words, show_from_to, show_words, gen_words, route_words, demo_words, spread_words, failings, sweep_words, part_names, export_words, command_of, commands}
 
 -- a word that a table does not begin with is looked for behind
 other_word : (b : Bool) (xs ys : List ℕ) → Decides b (xs ≡ ys) → (ys ≡ xs → ⊥) → b ≡ false
@@ -36,6 +36,9 @@ no_such_kind word ring torus tree random = sym (not_named kinds word (ring, (tor
 
 pub no_such_failing : (word : List ℕ) → (word ≡ codes "cables" → ⊥) → (word ≡ codes "switches" → ⊥) → None ≡ named failings word
 no_such_failing word cables switches = sym (not_named failings word (cables, (switches, tt)))
+
+pub no_such_part : (word : List ℕ) → (word ≡ codes "tables" → ⊥) → (word ≡ codes "levels" → ⊥) → (word ≡ codes "config" → ⊥) → None ≡ named part_names word
+no_such_part word tables levels config = sym (not_named part_names word (tables, (levels, (config, tt))))
 
 pub no_route : {Z : Type 0} (others : List (String Z)) → length others < 2 → None ≡ route_words (texts others)
 no_route [] short = refl
@@ -92,6 +95,13 @@ no_sweep (a ∷ b ∷ c ∷ []) other = refl
 no_sweep (a ∷ b ∷ c ∷ d ∷ []) other = refl
 no_sweep (a ∷ b ∷ c ∷ d ∷ x ∷ []) other = absurd (other (omega arith))
 no_sweep (a ∷ b ∷ c ∷ d ∷ x ∷ y ∷ rest) other = refl
+
+pub no_export : {Z : Type 0} (others : List (String Z)) → (length others ≡ 3 → ⊥) → None ≡ export_words (texts others)
+no_export [] other = refl
+no_export (a ∷ []) other = refl
+no_export (a ∷ b ∷ []) other = refl
+no_export (a ∷ b ∷ c ∷ []) other = absurd (other (omega arith))
+no_export (a ∷ b ∷ c ∷ d ∷ rest) other = refl
 
 pub show_to_missing : (from to : Option ℕ) → None ≡ option_map lid_id to → None ≡ show_from_to from to
 show_to_missing (Some from) (Some to) e = cc

@@ -34,6 +34,10 @@ use Rattle.fab_drain.specs.Drains.{EndsAs}
 use Rattle.fab_mcast.specs.GroupList.{Group}
 use Rattle.fab_mcast.specs.GroupTrees.{Planted, ArePlanted, entries_at}
 use Rattle.fab_mcast.specs.Spreads.{IsSpread}
+use Rattle.fab_export.specs.declared.part.Part.{Part}
+use Rattle.fab_export.specs.declared.fault.Unfit.{Unfit}
+use Rattle.fab_export.specs.Parts.{part_text}
+use Rattle.fab_export.specs.Unfits.{IsFirstUnfit}
 use Rattle.fab_replies.specs.declared.replied.Replied.{Replied}
 use Rattle.fab_replies.specs.declared.replied.Replied.TheVariants as replied
 use Rattle.fab_replies.specs.Answers as replying
@@ -42,7 +46,7 @@ use Rattle.fab_sweep.specs.declared.rows.SweepRow.{SweepRow}
 use Rattle.fab_sweep.specs.Sweeps.{AreSweepRows}
 use Rattle.fab_top.specs.declared.command.Engine.{Engine}
 use Rattle.fab_top.specs.declared.command.Command.{Command}
-use Rattle.fab_top.specs.declared.command.Command.TheVariants.{Check, Route, Certify, Convert, Repair, Cut, Show, Load, Gen, Demo, Transit, Drain, Mcast, Spread, Sweep, Replies}
+use Rattle.fab_top.specs.declared.command.Command.TheVariants.{Check, Route, Certify, Convert, Repair, Cut, Show, Load, Gen, Demo, Transit, Drain, Mcast, Spread, Sweep, Export, Replies}
 use Rattle.fab_top.specs.Words.{command_of}
 use Rattle.fab_top.specs.Usage.{usage_text}
 use Rattle.fab_top.specs.Answer.{Answer, done, no}
@@ -52,6 +56,7 @@ use Rattle.fab_top.specs.Files.{known_place, known_group, known_member, members_
 use Rattle.fab_top.specs.GroupTexts.{groups_text, spread_text}
 use Rattle.fab_top.specs.ChangeTexts.{mixed_text}
 use Rattle.fab_top.specs.DrainTexts.{drained_text, waiting_text}
+use Rattle.fab_top.specs.ExportTexts.{unfit_text}
 use Rattle.fab_top.specs.ReplyTexts.{replied_text}
 use Rattle.fab_top.specs.ReportTexts.{kept_text, load_text, summary_text, sweep_text}
 use Rattle.fab_top.specs.Seen.{Seen, After, WithFabric, WithPlan, WithBoth, WithoutFailed, WithGroups}
@@ -201,6 +206,16 @@ IsSpreadAnswer group lid t groups answer = AfterMember group lid t groups (IsSpr
 abbrev pub IsSweepAnswer : Failing → ℕ → Topology → Plan → Answer → Type 0
 IsSweepAnswer what lanes t p answer = (rows : List SweepRow) × AreSweepRows t p lanes what rows × (answer ≡ done (sweep_text t rows))
 
+-- ---- export
+
+-- the text of a part, or the first reason against it
+abbrev pub export_answer : Part → Topology → Plan → Option Unfit → Answer
+export_answer of_part t p None = done (part_text of_part t p)
+export_answer of_part t p (Some reason) = no (unfit_text t reason)
+
+abbrev pub IsExportAnswer : Part → Topology → Plan → Answer → Type 0
+IsExportAnswer of_part t p answer = (found : Option Unfit) × IsFirstUnfit t p of_part found × (answer ≡ export_answer of_part t p found)
+
 -- ---- replies
 
 -- what is said of replies: numbers on the output, a fault or a ring on the error output
@@ -232,6 +247,7 @@ IsAnswerTo w (Drain fabric plan) answer = WithBoth w fabric plan IsDrainAnswer a
 IsAnswerTo w (Mcast fabric groups) answer = WithFabric w fabric (λ t. WithGroups w t groups (IsMcastAnswer t)) answer
 IsAnswerTo w (Spread fabric groups group from) answer = WithFabric w fabric (λ t. WithGroups w t groups (IsSpreadAnswer group from.0 t)) answer
 IsAnswerTo w (Sweep what fabric plan lanes) answer = WithBoth w fabric plan (IsSweepAnswer what lanes) answer
+IsAnswerTo w (Export of_part fabric plan) answer = WithBoth w fabric plan (IsExportAnswer of_part) answer
 IsAnswerTo w (Replies fabric plan) answer = WithBoth w fabric plan IsRepliesAnswer answer
 
 abbrev pub usage : Answer

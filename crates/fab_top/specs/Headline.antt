@@ -14,6 +14,8 @@ use Rattle.fab_tables.specs.Dependencies.{AreReadLanes, Depends}
 use Rattle.fab_tables.specs.Entries.{Entries}
 use Rattle.fab_tables.specs.LaneTables.{LaneTables}
 use Rattle.fab_tables.specs.Route.{route, visited, HasRepeat}
+use Rattle.fab_dump.specs.Reading.{plan_of}
+use Rattle.fab_dump.specs.Writing.{lines_text}
 use Rattle.fab_check.specs.Free.{IsFreeOfDeadlock}
 use Rattle.fab_certify.specs.Numbered.{IsSound}
 use Rattle.fab_nue.specs.NuePlan.{IsNuePlan}
@@ -28,6 +30,13 @@ use Rattle.fab_drain.specs.Fills.{IsFilling}
 use Rattle.fab_mcast.specs.GroupList.{Group}
 use Rattle.fab_mcast.specs.GroupTrees.{Planted}
 use Rattle.fab_mcast.specs.Spreads.{IsSpread, IsOtherMember, ReachesMembers}
+use Rattle.fab_export.specs.declared.part.Part.{Part}
+use Rattle.fab_export.specs.declared.part.Part.TheVariants as part
+use Rattle.fab_export.specs.Unfits.{IsFit}
+use Rattle.fab_export.specs.Policies.{policy_of}
+use Rattle.fab_export.specs.LevelsText.{policy_lines}
+use Rattle.fab_export.specs.SaidPlan.{entries_said, plan_said}
+use Rattle.fab_export.specs.Laws.{IsSaidOf, CanBeLoaded, GivesLevels, IsMapOf}
 use Rattle.fab_replies.specs.Replies.{DependsJointly}
 use Rattle.fab_replies.specs.Answers.{HasGoodReplies}
 use Rattle.fab_replies.specs.Covered.{Covers}
@@ -36,7 +45,7 @@ use Rattle.fab_sweep.specs.Sweeps.{AreRepairsCertified}
 use Rattle.fab_top.specs.declared.command.Engine.{Engine}
 use Rattle.fab_top.specs.declared.command.Engine.TheVariants.{Nue}
 use Rattle.fab_top.specs.declared.command.Command.{Command}
-use Rattle.fab_top.specs.declared.command.Command.TheVariants.{Check, Route, Certify, Convert, Repair, Cut, Show, Load, Gen, Demo, Transit, Drain, Mcast, Spread, Sweep, Replies}
+use Rattle.fab_top.specs.declared.command.Command.TheVariants.{Check, Route, Certify, Convert, Repair, Cut, Show, Load, Gen, Demo, Transit, Drain, Mcast, Spread, Sweep, Export, Replies}
 use Rattle.fab_top.specs.Words.{command_of}
 use Rattle.fab_top.specs.Answer.{Answer, done}
 use Rattle.fab_top.specs.Answers.{IsAnswer, repaired, change_of, members_by_group, AfterMember}
@@ -275,6 +284,26 @@ pub record SpreadsTruly (t : Topology) (groups : List Group) (index from : ℕ) 
 abbrev pub SweepsTruly : Failing → ℕ → Topology → Plan → Answer → Type 0
 SweepsTruly what lanes t p answer = Done answer × AreRepairsCertified t p lanes what
 
+-- ---- export
+
+-- The tables are loaded whole, and read again as a plain dump they are the plan's entries where switch and LID are connected. The policy gives
+-- each pair of port GUIDs the level of the plan. The map is the plan's at every switch.
+abbrev pub TellsTruly : Part → Topology → Plan → List ℕ → Type 0
+TellsTruly part.Tables t p text =
+    CanBeLoaded t p.tables × IsSaidOf t p.tables (entries_said t p.tables)
+    × (plan_of t text ≡ Ok (record { tables = entries_said t p.tables; lanes = None }))
+TellsTruly part.Levels t p text =
+    (l : LaneTables) × (p.lanes ≡ Some l) × GivesLevels t p.tables l × (text ≡ lines_text (policy_lines (policy_of t p.tables l)))
+TellsTruly part.Config t p text = (l : LaneTables) → p.lanes ≡ Some l → IsMapOf t p.tables l
+
+-- A part is written exactly where no reason stands against it. Then it tells what it should, and the plan that the three parts say is safe
+-- and, with lanes, certified.
+pub record ExportsTruly (of_part : Part) (t : Topology) (p : Plan) (answer : Answer) : Type 0 where
+  pub done : Done answer ↔ IsFit t p of_part
+  pub told : Done answer → TellsTruly of_part t p answer.out
+  pub safe : Done answer → IsSafe t (plan_said t p)
+  pub certified : Done answer → (l : LaneTables) → p.lanes ≡ Some l → IsCertified t (plan_said t p)
+
 -- ---- replies
 
 -- With the lanes with which the plan is read its routes reach, each source has a level for each LID connected to it, every lane that packets or
@@ -312,6 +341,7 @@ KeepsHeadlineOf w (Mcast fabric groups) answer = WithFabric w fabric (λ t. With
 KeepsHeadlineOf w (Spread fabric groups group from) answer =
     WithFabric w fabric (λ t. WithGroups w t groups (λ listed. AfterMember group from.0 t listed (SpreadsTruly t listed))) answer
 KeepsHeadlineOf w (Sweep what fabric plan lanes) answer = WithBoth w fabric plan (SweepsTruly what lanes) answer
+KeepsHeadlineOf w (Export of_part fabric plan) answer = WithBoth w fabric plan (ExportsTruly of_part) answer
 KeepsHeadlineOf w (Replies fabric plan) answer = WithBoth w fabric plan RepliesTruly answer
 
 abbrev pub KeepsHeadline : Seen → Answer → Type 0

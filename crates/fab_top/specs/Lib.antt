@@ -7,6 +7,7 @@ pub mod Texts
 pub mod ReportTexts
 pub mod ChangeTexts
 pub mod DrainTexts
+pub mod ExportTexts
 pub mod ReplyTexts
 pub mod GroupTexts
 pub mod FaultTexts

@@ -5,7 +5,7 @@ use Rattle.std.specs.Prelude.{◌≡◌, ℕ, ◌<◌, ◌≤◌, ◌⊎◌, Lis
 use Rattle.std.specs.Option.{option_map_or}
 use Rattle.fab_io.specs.Faults.{Rose}
 use Rattle.fab_top.specs.declared.command.Command.{Command}
-use Rattle.fab_top.specs.declared.command.Command.TheVariants.{Check, Route, Certify, Convert, Repair, Cut, Show, Load, Gen, Demo, Transit, Drain, Mcast, Spread, Sweep, Replies}
+use Rattle.fab_top.specs.declared.command.Command.TheVariants.{Check, Route, Certify, Convert, Repair, Cut, Show, Load, Gen, Demo, Transit, Drain, Mcast, Spread, Sweep, Export, Replies}
 use Rattle.fab_top.specs.Words.{command_of}
 use Rattle.fab_top.specs.Answer.{Answer, unread}
 use Rattle.fab_top.specs.Seen.{seen, seen_failing, word_at}
@@ -40,6 +40,7 @@ files_of (Drain fabric plan) = fabric ∷ plan ∷ []
 files_of (Mcast fabric groups) = fabric ∷ groups ∷ []
 files_of (Spread fabric groups group from) = fabric ∷ groups ∷ []
 files_of (Sweep what fabric plan lanes) = fabric ∷ plan ∷ []
+files_of (Export of_part fabric plan) = fabric ∷ plan ∷ []
 files_of (Replies fabric plan) = fabric ∷ plan ∷ []
 
 abbrev pub files_named : List (List ℕ) → List ℕ

@@ -1,4 +1,4 @@
--- The grammar of the words, as far as it is built:
+-- The grammar of the words:
 --     check FABRIC PLAN
 --     route minhop|dor|sssp FABRIC
 --     route updn FABRIC, and then any number of --root GUID
@@ -16,6 +16,7 @@
 --     mcast FABRIC GROUPS
 --     spread FABRIC GROUPS GROUP LID
 --     sweep cables|switches FABRIC PLAN --lanes N
+--     export tables|levels|config FABRIC PLAN
 --     replies FABRIC PLAN
 -- A file's word is not empty and does not begin with two dashes. A file is named by the place of its word. Numbers are
 -- decimal, without leading zeros. A LID is a decimal number, or `0x` and 1 to 4 hexadecimal digits. A GUID is `0x` and 1 to 16
@@ -32,6 +33,8 @@ use Rattle.fab_report.specs.declared.recipe.Kind.{Kind}
 use Rattle.fab_report.specs.declared.recipe.Kind.TheVariants as kind
 use Rattle.fab_report.specs.declared.recipe.Recipe.{Recipe}
 use Rattle.fab_report.specs.Recipes.{fits}
+use Rattle.fab_export.specs.declared.part.Part.{Part}
+use Rattle.fab_export.specs.declared.part.Part.TheVariants as part
 use Rattle.fab_sweep.specs.declared.Failing.{Failing}
 use Rattle.fab_sweep.specs.declared.Failing.TheVariants as failing
 use Rattle.fab_top.specs.declared.command.Engine.{Engine}
@@ -206,6 +209,13 @@ sweep_words (word ∷ fabric ∷ plan ∷ flag ∷ count ∷ []) =
     option_and_then (λ what. option_and_then (λ lanes. then_some (is_file fabric && is_file plan) (command.Sweep what 2 3 lanes)) (flagged_lanes flag count)) (named failings word)
 sweep_words _ = None
 
+abbrev pub part_names : List (List ℕ × Part)
+part_names = (codes "tables", part.Tables) ∷ (codes "levels", part.Levels) ∷ (codes "config", part.Config) ∷ []
+
+abbrev pub export_words : List (List ℕ) → Option Command
+export_words (name ∷ fabric ∷ plan ∷ []) = option_and_then (λ of_part. then_some (is_file fabric && is_file plan) (command.Export of_part 2 3)) (named part_names name)
+export_words _ = None
+
 abbrev pub commands : List (List ℕ × (List (List ℕ) → Option Command))
 commands =
     (codes "check", two_files command.Check)
@@ -223,6 +233,7 @@ commands =
     ∷ (codes "mcast", two_files command.Mcast)
     ∷ (codes "spread", spread_words)
     ∷ (codes "sweep", sweep_words)
+    ∷ (codes "export", export_words)
     ∷ (codes "replies", two_files command.Replies)
     ∷ []
 

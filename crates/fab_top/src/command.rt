@@ -2,6 +2,7 @@
 //! for two files, as `-` does.
 
 use crate::guid_list::GuidList;
+use fab_export::Part;
 use fab_model::Lid;
 use fab_report::Recipe;
 use fab_sweep::Failing;
@@ -111,6 +112,12 @@ pub enum Command {
         fabric: usize,
         plan: usize,
         lanes: u8,
+    },
+    /// A part of a plan as a subnet manager loads it.
+    Export {
+        part: Part,
+        fabric: usize,
+        plan: usize,
     },
     /// Whether the answers to a plan's packets keep an order with them too, on numbers or in a ring.
     Replies {

@@ -7,6 +7,7 @@ mod commands;
 mod drain_texts;
 mod engine_words;
 mod engines;
+mod export_texts;
 mod fault_texts;
 mod files;
 #[cfg(test)]

@@ -10,8 +10,8 @@ ghost use Rattle.fab_top.specs.Usage.{usage_text};
 
 use crate::command::Command;
 use crate::commands::{
-    certify, check, convert, cut, drain, generate, load, mcast, repair, replies, show, spread,
-    sweep, transit,
+    certify, check, convert, cut, drain, export, generate, load, mcast, repair, replies, show,
+    spread, sweep, transit,
 };
 use crate::fault_texts::unread_text;
 use crate::outcome::{Outcome, Stop};
@@ -95,6 +95,7 @@ fn obey<F: Shelf>(
             plan,
             lanes,
         } => sweep(alloc, words, shelf, what, fabric, plan, lanes),
+        Command::Export { part, fabric, plan } => export(alloc, words, shelf, part, fabric, plan),
         Command::Replies { fabric, plan } => replies(alloc, words, shelf, fabric, plan),
     }
 }

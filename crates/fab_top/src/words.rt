@@ -2,7 +2,7 @@
 //! length of the words gives.
 ghost use Rattle.std.specs.Prelude.{◌≡◌, ◌≤◌, IfSome, IfOk, option_map};
 ghost use Rattle.std.specs.Bool.{then_some};
-ghost use Rattle.fab_top.specs.Words.{texts, command_of, is_file, are_two_files, two_files, has_leading_zero, number_in, named, kinds, lid_in, group_in, lanes_in, flagged_lanes, are_three_files, repair_words, transit_words, show_from_to, show_words, recipe_in, gen_words, spread_words, failings, sweep_words};
+ghost use Rattle.fab_top.specs.Words.{texts, command_of, is_file, are_two_files, two_files, has_leading_zero, number_in, named, kinds, lid_in, group_in, lanes_in, flagged_lanes, are_three_files, repair_words, transit_words, show_from_to, show_words, recipe_in, gen_words, spread_words, failings, sweep_words, part_names, export_words};
 ghost use Rattle.fab_top.specs.ReadWords.{or_unknown, wants_memory};
 ghost use Rattle.fab_text.specs.Fields.{hex};
 ghost use Rattle.fab_text.specs.Readings.{Gives};
@@ -11,6 +11,7 @@ ghost use Rattle.fab_top.specs.declared.command.Command.TheVariants as asked;
 
 use crate::command::Command;
 use crate::engine_words::{demo_words, lanes_in, route_words};
+use fab_export::Part;
 use fab_model::Lid;
 use fab_report::{Kind, Recipe};
 use fab_sweep::Failing;
@@ -295,6 +296,33 @@ fn sweep_words(others: &[String]) -> Option<Command>
     }
 }
 
+fn part_in(word: &str) -> Option<Part>
+    ensures { result ≡ named part_names word.now }
+{
+    match word {
+        "tables" => Some(Part::Tables),
+        "levels" => Some(Part::Levels),
+        "config" => Some(Part::Config),
+        _ => None,
+    }
+}
+
+fn export_words(others: &[String]) -> Option<Command>
+    ensures { result ≡ export_words (texts others.now) }
+{
+    match others {
+        [part, fabric, plan] => {
+            let part = part_in(part.as_str())?;
+            (is_file(fabric.as_str()) && is_file(plan.as_str())).then_some(Command::Export {
+                part,
+                fabric: 2,
+                plan: 3,
+            })
+        }
+        _ => None,
+    }
+}
+
 /// The command that the words spell, if they are in the grammar. The error is want of memory.
 fn command_of(alloc: Global, words: &[String]) -> Result<Option<Command>, AllocError>
     ensures { IfOk result (λ command. command ≡ command_of (texts words.now)) }
@@ -318,6 +346,7 @@ fn command_of(alloc: Global, words: &[String]) -> Result<Option<Command>, AllocE
         "mcast" => Ok(mcast_words(others)),
         "spread" => Ok(spread_words(others)),
         "sweep" => Ok(sweep_words(others)),
+        "export" => Ok(export_words(others)),
         "replies" => Ok(on_two_files(others, Command::Replies { fabric: 1, plan: 2 })),
         _ => Ok(None),
     }

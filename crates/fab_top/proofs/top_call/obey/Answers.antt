@@ -101,6 +101,12 @@ sweep-requires-clause-plan g c = (is_spelled c.args.words.now _ _ c.requires c.i
 pub sweep-requires-clause-lanes : goal.sweep-requires-clause-lanes
 sweep-requires-clause-lanes g c = (is_spelled c.args.words.now _ _ c.requires c.in-Sweep.is).asks.lanes
 
+pub export-requires-clause-fabric : goal.export-requires-clause-fabric
+export-requires-clause-fabric g c = (is_spelled c.args.words.now _ _ c.requires c.in-Export.is).places.0
+
+pub export-requires-clause-plan : goal.export-requires-clause-plan
+export-requires-clause-plan g c = (is_spelled c.args.words.now _ _ c.requires c.in-Export.is).places.1.0
+
 pub replies-requires-clause-fabric : goal.replies-requires-clause-fabric
 replies-requires-clause-fabric g c = (is_spelled c.args.words.now _ _ c.requires c.in-Replies.is).places.0
 

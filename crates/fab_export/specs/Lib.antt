@@ -1,0 +1,16 @@
+pub mod PortGuids
+pub mod Reached
+pub mod Routed
+pub mod LevelsInUse
+pub mod Classes
+pub mod ClassNumbers
+pub mod Numberings
+pub mod Unfits
+pub mod TablesText
+pub mod Policies
+pub mod SourceLevels
+pub mod LevelsText
+pub mod ConfigText
+pub mod Parts
+pub mod SaidPlan
+pub mod Laws
