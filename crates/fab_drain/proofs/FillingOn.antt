@@ -23,10 +23,6 @@ use Rattle.fab_tables.specs.Starts.{start_of, IsOfTerminal}
 use Rattle.fab_tables.proofs.Joined.Lids.{connected_in_use}
 use Rattle.fab_tables.proofs.Paths.Ways.{drop_step}
 use Rattle.fab_tables.proofs.Verdicts.CertifiedLaws.{none_some}
-use Rattle.fab_tables.specs.declared.verdict.Verdict.{Verdict}
-use Rattle.fab_certify.specs.declared.certified.Certified.{Certified}
-use Rattle.fab_certify.specs.declared.certified.Certified.TheVariants as certified
-use Rattle.fab_certify.specs.Certificate.{IsCertificate}
 use Rattle.fab_drain.specs.declared.packet.Packet.{Packet}
 use Rattle.fab_certify.specs.Certificate.{IsSoundPlan}
 use Rattle.fab_drain.specs.Loads.{hops_of, hops_of_row, stand_of, IsPacket, Load, Loaded, IsPlace, loaded_at, loaded_with, StandsOn}

@@ -1,27 +1,45 @@
 -- The places of offers: no packet stands between the end of one start, or one LID, and the begin of the next.
 use Rattle.std.proofs.Common.{◌≡◌, ◌≢◌, ℕ, zero, suc, ◌<◌, ◌≤◌, ◌⊎◌, inl, inr, List, [], ◌∷◌, length, map, refl, sym, ◌∙◌, ap, subst, arith, Some, None, Option, Contains}
-use Rattle.std.specs.Prelude.{slice_get, slice_index_or}
+use Rattle.std.specs.Prelude.{IfSome, slice_get, slice_index_or}
 use Rattle.std.specs.List.{range_with_len}
 use Rattle.std.proofs.lemmas.Bool.{cases_lt, cases_eq}
 use Rattle.std.proofs.lemmas.List.{get_or_default}
 use Rattle.std.proofs.lemmas.List.FromFn.{get_or-map-range_with_len, length-map-range_with_len}
 use Rattle.std.proofs.lemmas.Option.{slice_get_within, get_or_from_slice_get, slice_get-get_or}
+use Rattle.fab_model.specs.declared.rows.SwitchId.{SwitchId}
 use Rattle.fab_model.specs.declared.rows.TerminalRow.{TerminalRow}
 use Rattle.fab_model.specs.Topology.{Topology, place_of}
 use Rattle.fab_model.specs.Connected.{IsConnectedTo}
 use Rattle.fab_model.specs.WellFormed.{IsFabric}
 use Rattle.fab_tables.specs.declared.plan.Plan.{Plan}
 use Rattle.fab_tables.specs.declared.starts.Start.{Start}
+use Rattle.fab_tables.specs.declared.verdict.VirtualChannel.{VirtualChannel}
 use Rattle.fab_tables.specs.First.{IsBefore}
-use Rattle.fab_tables.specs.Starts.{start_of, StartsNotAfter, AreStarts}
+use Rattle.fab_tables.specs.LaneTables.{LaneTables}
+use Rattle.fab_tables.specs.Plain.{plain_channels}
+use Rattle.fab_tables.specs.Reading.{channels_read, hops_read}
+use Rattle.fab_tables.specs.Route.{route}
+use Rattle.fab_tables.specs.Starts.{start_of, StartsNotAfter, IsOfTerminal, AreStarts}
+use Rattle.fab_tables.specs.VirtualChannels.{virtual_channel}
+use Rattle.fab_tables.proofs.Verdicts.PlainLaws.{same_channels}
 use Rattle.fab_tables.proofs.Verdicts.CertifiedLaws.{none_some}
 use Rattle.fab_drain.specs.declared.packet.Packet.{Packet}
-use Rattle.fab_drain.specs.Loads.{IsPacket, Load}
+use Rattle.fab_drain.specs.Loads.{hops_of, hops_of_row, IsPacket, Load}
 use Rattle.fab_drain.specs.Fills.{key_of, key_of_row}
-use Rattle.fab_drain.specs.Offers.{IsFilledBefore, before_start, behind_start, behind_of, behind_starts}
-use Rattle.fab_drain.proofs.Offering.{key_is, same_place}
+use Rattle.fab_drain.specs.Offers.{AreAlike, IsFilledBefore, before_start, behind_start, behind_of, behind_starts}
+use Rattle.fab_drain.proofs.Offering.{key_is, HasEcho, same_filling, same_place}
 use Rattle.fab_drain.proofs.OneFilling.{one_terminal}
 use Rattle.fab_drain.proofs.Rings.{Repeats, pigeonhole}
+
+-- ---- packets that go alike
+
+alike_read : (t : Topology) (p : Plan) (o : Option LaneTables) → IfSome o (λ (l : LaneTables). l.pairs ≡ []) → (a b : TerminalRow) (lid : ℕ) → a.switch.0 ≡ b.switch.0 → channels_read t p o a lid ≡ channels_read t p o b lid
+alike_read t p None none a b lid same = ap (λ s. map (λ c. virtual_channel c 0) (route t p.tables s lid).channels) same
+alike_read t p (Some l) none a b lid same =
+    same_channels t p.tables l none a lid ∙ ap (λ s. plain_channels t p.tables l s lid) same ∙ sym (same_channels t p.tables l none b lid)
+
+hops_alike : (t : Topology) (p : Plan) → AreAlike p → (a b : TerminalRow) (lid : ℕ) → a.switch.0 ≡ b.switch.0 → hops_read t p a lid ≡ hops_read t p b lid
+hops_alike t p alike a b lid same = alike_read t p p.lanes alike a b lid same
 
 -- ---- starts rise
 
@@ -125,6 +143,10 @@ module _ (t : Topology) (starts : List Start) (is : IsFabric t) (are : AreStarts
   -- where the start of a packet stands
   pub start_there : (row : TerminalRow) → Contains t.terminals row → Contains starts (start_of row)
   start_there row has = subst (λ r. Contains starts (start_of r)) has.2 (are.all has.0 row has.1)
+
+-- one of so many starts is at the switch
+abbrev pub HasSource : List Start → ℕ → Option SwitchId → Type 0
+HasSource starts k source = (s : SwitchId) → source ≡ Some s → (m : ℕ) × (m < k) × ((d : Start) → (slice_index_or starts m d).switch ≡ s)
 
 -- ---- places of packets
 
@@ -297,23 +319,94 @@ module _ (t : Topology) (p : Plan) (lid : ℕ) where
           ]
         ]
 
+  -- what comes before a start comes before its end
+  start_grows : (start : Start) (q : Packet) → IsPacket t p q → IsBefore (key_of t q) (before_start lid start) → IsBefore (key_of t q) (behind_start lid start)
+  start_grows start q x h = key_before t p q x (behind_start lid start) (start_behind lid q.lid.0 q.position (start_of x.row) start (on (before_start_of lid q.lid.0 q.position (start_of x.row) start (before_key t p q x (before_start lid start) h))))
+    where
+      on : (q.lid.0 < lid) ⊎ ((q.lid.0 ≡ lid) × StartsBefore (start_of x.row) start) → (q.lid.0 < lid) ⊎ ((q.lid.0 ≡ lid) × StartsNotAfter (start_of x.row) start)
+      on (inl i) = inl i
+      on (inr u) = inr (u.0, elim u.1 [ inl i ↦ inl i | inr i ↦ inr (i.0, omega (arith, i.1)) ])
+
   -- a start that isn't connected to the LID has no packets to it
   pub past_start : (start : Start) → (IsConnectedTo t start.switch.0 lid → ⊥) → (load : Load) → IsFilledBefore t p (before_start lid start) load → IsFilledBefore t p (behind_start lid start) load
   past_start start apart load filled = same_place t p (before_start lid start) (behind_start lid start)
-      (λ q x h. key_before t p q x (behind_start lid start) (start_behind lid q.lid.0 q.position (start_of x.row) start (on q x (before_start_of lid q.lid.0 q.position (start_of x.row) start (before_key t p q x (before_start lid start) h)))))
+      (start_grows start)
       (λ q x h. key_before t p q x (before_start lid start) (start_before lid q.lid.0 q.position (start_of x.row) start (back q x (behind_start_of lid q.lid.0 q.position (start_of x.row) start (before_key t p q x (behind_start lid start) h)))))
       load filled
     where
-      on : (q : Packet) → (x : IsPacket t p q) → (q.lid.0 < lid) ⊎ ((q.lid.0 ≡ lid) × StartsBefore (start_of x.row) start) → (q.lid.0 < lid) ⊎ ((q.lid.0 ≡ lid) × StartsNotAfter (start_of x.row) start)
-      on q x (inl i) = inl i
-      on q x (inr u) = inr (u.0, elim u.1 [ inl i ↦ inl i | inr i ↦ inr (i.0, omega (arith, i.1)) ])
-
       back : (q : Packet) → (x : IsPacket t p q) → (q.lid.0 < lid) ⊎ ((q.lid.0 ≡ lid) × StartsNotAfter (start_of x.row) start) → (q.lid.0 < lid) ⊎ ((q.lid.0 ≡ lid) × StartsBefore (start_of x.row) start)
       back q x (inl i) = inl i
       back q x (inr u) = elim u.1 [
         | inl i ↦ inr (u.0, inl i)
         | inr i ↦ absurd (apart (subst (λ n. IsConnectedTo t n lid) i.0 (subst (λ n. IsConnectedTo t x.row.switch.0 n) u.0 x.path.connected)))
       ]
+
+  -- where packets of a switch's terminals go alike, those of a later one change nothing
+  module _ (starts : List Start) (is : IsFabric t) (are : AreStarts t starts) (alike : AreAlike p) (j : ℕ) (start : Start) (at : slice_get starts j ≡ Some start)
+      (m : ℕ) (less : m < j) (same : (slice_index_or starts m start).switch.0 ≡ start.switch.0) where
+    abbrev at_first : IsOfTerminal t (slice_index_or starts m start)
+    at_first = are.terminals m start (omega (arith, less, slice_get_within starts j start at))
+
+    abbrev first_row : TerminalRow
+    first_row = at_first.0
+
+    first_row_at : slice_get t.terminals at_first.1.0 ≡ Some first_row
+    first_row_at = slice_get-get_or t.terminals at_first.1.0 first_row at_first.1.1 ∙ ap Some at_first.1.2
+
+    at_switch : first_row.switch.0 ≡ start.switch.0
+    at_switch = ap (λ (s : Start). s.switch.0) at_first.2 ∙ same
+
+    sooner : StartsBefore (start_of first_row) start
+    sooner = subst (λ s. StartsBefore s start) (sym at_first.2)
+        (subst (λ s. StartsBefore (slice_index_or starts m start) s) (get_or_from_slice_get starts j start start at) (rise t starts is are m j start less (slice_get_within starts j start at)))
+
+    lower : first_row.port < start.port
+    lower = elim sooner [ inl i ↦ absurd (omega (arith, i, at_switch)) | inr i ↦ i.1 ]
+
+    module _ (q : Packet) (x : IsPacket t p q) (to : q.lid.0 ≡ lid) (switch : x.row.switch.0 ≡ start.switch.0) (port : x.row.port ≡ start.port) where
+      abbrev earlier : Packet
+      earlier = record { terminal = record { 0 = at_first.1.0 }; lid = q.lid; position = q.position }
+
+      as_many : hops_of t p earlier ≡ hops_of t p q
+      as_many = ap (λ o. hops_of_row t p q.lid.0 o) first_row_at ∙ hops_alike t p alike first_row x.row q.lid.0 (at_switch ∙ sym switch) ∙ ap (λ o. hops_of_row t p q.lid.0 o) (sym x.terminal)
+
+      abbrev is_packet : IsPacket t p earlier
+      is_packet = record {
+        row = first_row;
+        terminal = first_row_at;
+        path = record { terminal = at_first.1; connected = subst (λ s. IsConnectedTo t s q.lid.0) (switch ∙ sym at_switch) x.path.connected };
+        position = subst (λ (vs : List VirtualChannel). q.position < length vs) (sym as_many) x.position;
+      }
+
+      echo : HasEcho t p (before_start lid start) q
+      echo = record {
+        earlier = earlier;
+        is_packet = is_packet;
+        early = key_before t p earlier is_packet (before_start lid start) (start_before lid q.lid.0 q.position (start_of first_row) start (inr (to, sooner)));
+        before = key_before t p earlier is_packet (key_of t q) (subst (λ k. IsBefore (key_of_row earlier (Some first_row)) k) (sym (key_is t p q x)) (inr (refl, inr (at_switch ∙ sym switch, inl (omega (arith, lower, port))))));
+        position = refl;
+        hops = as_many;
+      }
+
+    pub past_alike : (load : Load) → IsFilledBefore t p (before_start lid start) load → IsFilledBefore t p (behind_start lid start) load
+    past_alike load filled = same_filling t p (before_start lid start) (behind_start lid start) (start_grows start) split load filled
+      where
+        sort : (q : Packet) → (x : IsPacket t p q) → (q.lid.0 < lid) ⊎ ((q.lid.0 ≡ lid) × StartsNotAfter (start_of x.row) start) →
+            ((q.lid.0 < lid) ⊎ ((q.lid.0 ≡ lid) × StartsBefore (start_of x.row) start)) ⊎ HasEcho t p (before_start lid start) q
+        sort q x (inl i) = inl (inl i)
+        sort q x (inr u) = elim u.1 [
+          | inl i ↦ inl (inr (u.0, inl i))
+          | inr i ↦ elim (cases_lt x.row.port start.port) [
+            | inl low ↦ inl (inr (u.0, inr (i.0, low)))
+            | inr high ↦ inr (echo q x u.0 i.0 (omega (arith, i.1, high)))
+          ]
+        ]
+
+        split : (q : Packet) → IsPacket t p q → IsBefore (key_of t q) (behind_start lid start) → IsBefore (key_of t q) (before_start lid start) ⊎ HasEcho t p (before_start lid start) q
+        split q x h = elim (sort q x (behind_start_of lid q.lid.0 q.position (start_of x.row) start (before_key t p q x (behind_start lid start) h))) [
+          | inl early ↦ inl (key_before t p q x (before_start lid start) (start_before lid q.lid.0 q.position (start_of x.row) start early))
+          | inr echo ↦ inr echo
+        ]
 
   -- a LID that isn't in use has no packets
   pub past_lid : place_of t lid ≡ None → (load : Load) → IsFilledBefore t p (lid ∷ []) load → IsFilledBefore t p (suc lid ∷ []) load

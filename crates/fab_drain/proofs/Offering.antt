@@ -1,6 +1,6 @@
 -- Packets are offered one after the other, in the order of their keys.
 use Rattle.std.proofs.Common.{◌≡◌, ℕ, suc, ◌<◌, ◌≤◌, ◌⊎◌, inl, inr, Bool, true, false, List, [], ◌∷◌, length, refl, sym, ◌∙◌, ap, subst, arith, Some, None, Option}
-use Rattle.std.specs.Prelude.{MatchOption, IfSome, not, ◌&&◌, nat_lt, if◌then◌else◌}
+use Rattle.std.specs.Prelude.{MatchOption, IfSome, slice_get, not, ◌&&◌, nat_lt, if◌then◌else◌}
 use Rattle.std.proofs.lemmas.Bool.{cases_lt, lt-ltb, le-ltb}
 use Rattle.fab_model.specs.Topology.{Topology}
 use Rattle.fab_tables.specs.declared.plan.Plan.{Plan}
@@ -11,7 +11,7 @@ use Rattle.fab_drain.specs.declared.packet.Packet.{Packet}
 use Rattle.fab_drain.specs.Loads.{hops_of, stand_of, IsPacket, Load, Loaded, IsPlace, loaded_at, loaded_with, with_cell, StandsOn}
 use Rattle.fab_drain.specs.Fills.{IsCandidate, key_of, key_of_row, IsFirstOf}
 use Rattle.fab_drain.specs.Offers.{is_taken, offered_at, IsEarlyCandidate, GoesFurtherEarly, IsPlacedEarly, IsFilledBefore}
-use Rattle.fab_tables.proofs.Faults.Firsts.{before_itself}
+use Rattle.fab_tables.proofs.Faults.Firsts.{before_itself, before_through}
 use Rattle.fab_drain.proofs.Cells.{read_same, read_other, one_channel}
 use Rattle.fab_drain.proofs.Moving.{with_keeps}
 
@@ -29,32 +29,71 @@ pub key_is : (t : Topology) (p : Plan) (q : Packet) → (x : IsPacket t p q) →
 key_is t p q x = ap (λ o. key_of_row q o) x.terminal
 
 module _ (t : Topology) (p : Plan) where
-  -- ---- two places with the same packets before them
+  -- ---- packets that change nothing
 
-  module _ (a b : List ℕ) (on : (q : Packet) → IsPacket t p q → IsBefore (key_of t q) a → IsBefore (key_of t q) b) (back : (q : Packet) → IsPacket t p q → IsBefore (key_of t q) b → IsBefore (key_of t q) a) where
-    candidate_on : (v : VirtualChannel) (q : Packet) → IsEarlyCandidate t p a v q → IsEarlyCandidate t p b v q
-    candidate_on v q x = record { candidate = x.candidate; early = on q x.candidate.is_packet x.early }
+  -- a packet before the place stands where this one does, and both have as many hops to go
+  pub record HasEcho (place : List ℕ) (q : Packet) : Type 0 where
+    pub earlier : Packet
+    pub is_packet : IsPacket t p earlier
+    pub early : IsBefore (key_of t earlier) place
+    pub before : IsBefore (key_of t earlier) (key_of t q)
+    pub position : earlier.position ≡ q.position
+    pub hops : hops_of t p earlier ≡ hops_of t p q
 
-    candidate_back : (v : VirtualChannel) (q : Packet) → IsEarlyCandidate t p b v q → IsEarlyCandidate t p a v q
-    candidate_back v q x = record { candidate = x.candidate; early = back q x.candidate.is_packet x.early }
+  -- where each packet more has an echo, what stands there stays
+  module _ (place next : List ℕ) (grows : (q : Packet) → IsPacket t p q → IsBefore (key_of t q) place → IsBefore (key_of t q) next)
+      (split : (q : Packet) → IsPacket t p q → IsBefore (key_of t q) next → IsBefore (key_of t q) place ⊎ HasEcho place q) where
+    abbrev IsThere : (Packet → Type 0) → Packet → Type 0
+    IsThere P q = (r : Packet) × P r × ((y : Packet) → IsBefore (key_of t q) (key_of t y) → IsBefore (key_of t r) (key_of t y))
 
-    further_on : (v : VirtualChannel) (q : Packet) → GoesFurtherEarly t p a v q → GoesFurtherEarly t p b v q
-    further_on v q x = record { further = x.further; early = on q x.further.candidate.is_packet x.early }
+    candidate_there : (v : VirtualChannel) (q : Packet) → IsEarlyCandidate t p next v q → IsThere (IsEarlyCandidate t p place v) q
+    candidate_there v q c = elim (split q c.candidate.is_packet c.early) [
+      | inl early ↦ (q, record { candidate = c.candidate; early = early }, λ y h. h)
+      | inr echo ↦ (
+        echo.earlier,
+        record { candidate = record { is_packet = echo.is_packet; stands = ap (λ vs. slice_get vs echo.earlier.position) echo.hops ∙ ap (λ n. slice_get (hops_of t p q) n) echo.position ∙ c.candidate.stands }; early = echo.early },
+        λ y h. before_through (key_of t echo.earlier) (key_of t q) (key_of t y) echo.before h,
+      )
+    ]
 
-    further_back : (v : VirtualChannel) (q : Packet) → GoesFurtherEarly t p b v q → GoesFurtherEarly t p a v q
-    further_back v q x = record { further = x.further; early = back q x.further.candidate.is_packet x.early }
+    further_there : (v : VirtualChannel) (q : Packet) → GoesFurtherEarly t p next v q → IsThere (GoesFurtherEarly t p place v) q
+    further_there v q c = elim (split q c.further.candidate.is_packet c.early) [
+      | inl early ↦ (q, record { further = c.further; early = early }, λ y h. h)
+      | inr echo ↦ (
+        echo.earlier,
+        record {
+          further = record {
+            candidate = record { is_packet = echo.is_packet; stands = ap (λ vs. slice_get vs echo.earlier.position) echo.hops ∙ ap (λ n. slice_get (hops_of t p q) n) echo.position ∙ c.further.candidate.stands };
+            further = omega (arith, c.further.further, echo.position, ap (λ (vs : List VirtualChannel). length vs) echo.hops);
+          };
+          early = echo.early;
+        },
+        λ y h. before_through (key_of t echo.earlier) (key_of t q) (key_of t y) echo.before h,
+      )
+    ]
 
-    placed_on : (v : VirtualChannel) (q : Packet) → IsPlacedEarly t p a v q → IsPlacedEarly t p b v q
-    placed_on v q (inl x) = inl (record { holds = further_on v q x.holds; first = λ other h. x.first other (further_back v other h) })
-    placed_on v q (inr x) = inr (λ other h. x.0 other (further_back v other h), record { holds = candidate_on v q x.1.holds; first = λ other h. x.1.first other (candidate_back v other h) })
-
-    pub same_place : (load : Load) → IsFilledBefore t p a load → IsFilledBefore t p b load
-    same_place load x = record { is_load = x.is_load; placed = λ v. go v (loaded_at load v) (x.placed v) }
+    pub same_filling : (load : Load) → IsFilledBefore t p place load → IsFilledBefore t p next load
+    same_filling load x = record { is_load = x.is_load; placed = λ v. go v (loaded_at load v) (x.placed v) }
       where
-        go : (v : VirtualChannel) (o : Option Loaded) → MatchOption o ((q : Packet) → ¬ IsEarlyCandidate t p a v q) (λ (y : Loaded). IsPlacedEarly t p a v y.packet) →
-            MatchOption o ((q : Packet) → ¬ IsEarlyCandidate t p b v q) (λ (y : Loaded). IsPlacedEarly t p b v y.packet)
-        go v None none = λ q h. none q (candidate_back v q h)
-        go v (Some y) placed = placed_on v y.packet placed
+        go : (v : VirtualChannel) (o : Option Loaded) → MatchOption o ((q : Packet) → ¬ IsEarlyCandidate t p place v q) (λ (y : Loaded). IsPlacedEarly t p place v y.packet) →
+            MatchOption o ((q : Packet) → ¬ IsEarlyCandidate t p next v q) (λ (y : Loaded). IsPlacedEarly t p next v y.packet)
+        go v None none = λ q c. (let r : IsThere (IsEarlyCandidate t p place v) q = candidate_there v q c in none r.0 r.1)
+        go v (Some y) (inl f) = inl (record {
+          holds = record { further = f.holds.further; early = grows y.packet f.holds.further.candidate.is_packet f.holds.early };
+          first = λ q c b. (let r : IsThere (GoesFurtherEarly t p place v) q = further_there v q c in f.first r.0 r.1 (r.2 y.packet b));
+        })
+        go v (Some y) (inr f) = inr (
+          λ q c. (let r : IsThere (GoesFurtherEarly t p place v) q = further_there v q c in f.0 r.0 r.1),
+          record {
+            holds = record { candidate = f.1.holds.candidate; early = grows y.packet f.1.holds.candidate.is_packet f.1.holds.early };
+            first = λ q c b. (let r : IsThere (IsEarlyCandidate t p place v) q = candidate_there v q c in f.1.first r.0 r.1 (r.2 y.packet b));
+          },
+        )
+
+  -- two places with the same packets before them
+  pub same_place : (a b : List ℕ) → ((q : Packet) → IsPacket t p q → IsBefore (key_of t q) a → IsBefore (key_of t q) b) → ((q : Packet) → IsPacket t p q → IsBefore (key_of t q) b → IsBefore (key_of t q) a) →
+      (load : Load) → IsFilledBefore t p a load → IsFilledBefore t p b load
+  same_place a b on back load filled = same_filling a b on (λ q x h. inl (back q x h)) load filled
 
   -- ---- one packet more
 

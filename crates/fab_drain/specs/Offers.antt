@@ -1,10 +1,11 @@
 -- A filling under way: packets are offered in the order of their keys, and those before a place have been.
-use Rattle.std.specs.Prelude.{ℕ, ◌⊎◌, zero, suc, List, [], ◌∷◌, Option, Some, None, MatchOption, Bool, true, not, ◌&&◌, nat_lt, if◌then◌else◌, slice_get, slice_index}
+use Rattle.std.specs.Prelude.{◌≡◌, ℕ, ◌⊎◌, zero, suc, List, [], ◌∷◌, Option, Some, None, IfSome, MatchOption, Bool, true, not, ◌&&◌, nat_lt, if◌then◌else◌, slice_get, slice_index}
 use Rattle.fab_model.specs.Topology.{Topology}
 use Rattle.fab_tables.specs.declared.plan.Plan.{Plan}
 use Rattle.fab_tables.specs.declared.starts.Start.{Start}
 use Rattle.fab_tables.specs.declared.verdict.VirtualChannel.{VirtualChannel}
 use Rattle.fab_tables.specs.First.{IsBefore}
+use Rattle.fab_tables.specs.LaneTables.{LaneTables}
 use Rattle.fab_drain.specs.declared.packet.Packet.{Packet}
 use Rattle.fab_drain.specs.Loads.{Load, Loaded, loaded_at, with_cell, IsLoad}
 use Rattle.fab_drain.specs.Fills.{IsCandidate, key_of, IsFirstOf, GoesFurther}
@@ -16,6 +17,10 @@ is_taken new (Some standing) = nat_lt 1 new.remaining && not (nat_lt 1 standing.
 
 abbrev pub offered_at : Load → VirtualChannel → Loaded → Load
 offered_at load v new = if is_taken new (loaded_at load v) then with_cell load v (Some new) else load
+
+-- No pair of ports has a map, so packets of all terminals of a switch take the same virtual channels.
+abbrev pub AreAlike : Plan → Type 0
+AreAlike p = IfSome p.lanes (λ (l : LaneTables). l.pairs ≡ [])
 
 -- the candidates that come before a place
 pub record IsEarlyCandidate (t : Topology) (p : Plan) (place : List ℕ) (v : VirtualChannel) (packet : Packet) : Type 0 where

@@ -2,9 +2,10 @@
 //! terminal's port and position; a virtual channel keeps the first one that goes further, and until that comes the
 //! first one.
 //!
-//! It takes the time of a look for faults, and two steps for each hop of the routes of all terminals to all LIDs;
-//! memory for a copy of the plan, and some 20 bytes for each channel and lane.
-ghost use Rattle.std.specs.Prelude.{◌≡◌, suc, ◌*◌, ◌<◌, [], ◌∷◌, length, IfOk, None, replicate};
+//! It takes the time of a look for faults, and two steps for each hop of the routes of all switches that have a terminal
+//! to all LIDs, of all terminals where pairs of ports have maps; memory for a copy of the plan, and some 20 bytes for each
+//! channel and lane.
+ghost use Rattle.std.specs.Prelude.{◌≡◌, suc, ◌*◌, ◌<◌, ◌↔◌, [], ◌∷◌, length, IfOk, IsTrue, None, replicate};
 ghost use Rattle.fab_model.specs.Connected.{IsConnectedTo};
 ghost use Rattle.fab_tables.specs.Fit.{PlanFits};
 ghost use Rattle.fab_tables.specs.Reading.{count_read};
@@ -12,7 +13,7 @@ ghost use Rattle.fab_tables.specs.Starts.{AreStarts, IsOfTerminal};
 ghost use Rattle.fab_certify.specs.Certificate.{IsSoundPlan};
 ghost use Rattle.fab_drain.specs.Loads.{IsPlace};
 ghost use Rattle.fab_drain.specs.Fills.{IsFilling, IsFilled};
-ghost use Rattle.fab_drain.specs.Offers.{offered_at, IsFilledBefore, before_start, behind_start};
+ghost use Rattle.fab_drain.specs.Offers.{offered_at, AreAlike, IsFilledBefore, before_start, behind_start};
 
 use crate::packet::{Loaded, Packet};
 use crate::packet_hops::{hop_count, packet_hops};
@@ -49,6 +50,17 @@ fn filled(alloc: Global, fabric: &Fabric, plan: &Plan) -> Result<State, AllocErr
     Ok(state)
 }
 
+/// Whether packets of all terminals of a switch take the same virtual channels to a LID: no pair of ports has a map.
+/// Those of the first terminal stand for all then.
+fn are_alike(plan: &Plan) -> bool
+    ensures { IsTrue result ↔ AreAlike plan.now }
+{
+    match &plan.lanes {
+        Some(lanes) => lanes.pairs() == 0,
+        None => true,
+    }
+}
+
 impl State {
     /// The load of a plan that has no packet.
     fn new(alloc: Global, fabric: &Fabric, plan: &Plan) -> Result<State, AllocError>
@@ -67,7 +79,8 @@ impl State {
         })
     }
 
-    /// Offers the packets of all terminals to a LID.
+    /// Offers the packets of all terminals to a LID. Where those of a switch are alike, the later ones would change
+    /// nothing.
     fn offer_to(
         &mut self,
         fabric: &Fabric,
@@ -86,7 +99,13 @@ impl State {
         let Some(place) = fabric.place_of(lid) else {
             return;
         };
+        let alike = are_alike(plan);
+        let mut source = None;
         for start in starts {
+            if alike && source == Some(start.switch) {
+                continue;
+            }
+            source = Some(start.switch);
             if components.are_connected(start.switch, place.switch) {
                 self.offer_from(fabric, plan, *start, lid);
             }

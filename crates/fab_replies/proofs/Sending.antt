@@ -226,6 +226,7 @@ none_marked t e l lid marks c room = record {
   room = length-replicate {A = Bool} (length marks) false ∙ room;
   behind = none_behind t e l lid (length marks) c;
   good = λ s of_level few is. absurd (false≢true (sym (all_alike (length marks) (cell 16 s of_level) false) ∙ is));
+  whole = λ none s of_level few is. absurd (false≢true (sym (all_alike (length marks) (cell 16 s of_level) false) ∙ is));
 }
 
 pub none_to : (t : Topology) (e : Entries) (l : LaneTables) (marks : List Bool) (c : Collected) → IsRoomFor t marks → IsFromBoth t e l c → AreCollectedTo t e l marks c 0

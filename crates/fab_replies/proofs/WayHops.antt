@@ -1,5 +1,5 @@
 -- The hops of a way are collected one after the other, up to one with a bad lane, or until those behind are collected already.
-use Rattle.std.proofs.Common.{◌≡◌, ℕ, suc, ◌+◌, ◌-◌, ◌*◌, ◌<◌, ◌≤◌, ◌^◌, ◌⊎◌, Bool, true, false, List, [], ◌∷◌, length, drop, refl, sym, ◌∙◌, ap, subst, inl, inr, arith, Contains, Some, None, Option}
+use Rattle.std.proofs.Common.{◌≡◌, ℕ, zero, suc, ◌+◌, ◌-◌, ◌*◌, ◌<◌, ◌≤◌, ◌^◌, ◌⊎◌, Bool, true, false, List, [], ◌∷◌, length, drop, refl, sym, ◌∙◌, ap, subst, inl, inr, arith, Contains, Some, None, Option}
 use Rattle.std.specs.Prelude.{IfSome, slice_get, slice_index_or, slice_set}
 use Rattle.std.proofs.lemmas.Bool.{cases_lt, false≢true}
 use Rattle.std.proofs.lemmas.List.{length-drop}
@@ -13,13 +13,14 @@ use Rattle.fab_tables.specs.Entries.{Entries, cell}
 use Rattle.fab_tables.specs.LaneTables.{LaneTables}
 use Rattle.fab_tables.specs.Fit.{LanesFit}
 use Rattle.fab_tables.specs.Route.{route}
-use Rattle.fab_tables.specs.VirtualChannels.{on_channels}
+use Rattle.fab_tables.specs.VirtualChannels.{on_channels, arrival}
 use Rattle.fab_tables.specs.Dependencies.{node_of}
 use Rattle.fab_tables.proofs.Verdicts.CertifiedLaws.{contains_of}
 use Rattle.fab_tables.proofs.Paths.Routes.{channel_there}
 use Rattle.fab_tables.proofs.Paths.Ways.{drop_step}
 use Rattle.fab_tables.proofs.Paths.RoutesBehind.{behind_tail, hops_dropped, channel_of_hop, slice_dropped}
-use Rattle.fab_tables.specs.Judged.{IsRoomFor, hops_behind}
+use Rattle.fab_tables.proofs.Verdicts.PlainLaws.{same_hops}
+use Rattle.fab_tables.specs.Judged.{IsRoomFor, hops_from, hops_behind}
 use Rattle.fab_certify.specs.Numbered.{IsSound}
 use Rattle.fab_certify.specs.Collected.{Collected, IsMarked, Grows, AddsHop, HasHops, HasFirstHops, IsMarkedAt, HasBehind}
 use Rattle.fab_certify.proofs.Collected.BehindHops.{hops_grow, has_rest, joined, all_first}
@@ -29,10 +30,11 @@ use Rattle.fab_replies.specs.declared.collecting.Way.{Way}
 use Rattle.fab_replies.specs.Replies.{IsUsedJointly, DependsJointly, DependsJointlyByNode}
 use Rattle.fab_replies.specs.Jointly.{hops_of, IsWay, IsFromBoth, AreGood, AreMarked, AreDone, IsFirstBad}
 
--- those behind a switch and a level are good, and are collected
+-- those behind a switch and a level are good, and are collected; without maps of pairs all from there on
 pub record IsBehind (t : Topology) (e : Entries) (l : LaneTables) (lid : ℕ) (c : Collected) (s of_level : ℕ) : Type 0 where
   pub has : HasBehind t e l lid c s of_level
   pub good : AreGood l (hops_behind t e l lid s of_level)
+  pub whole : l.pairs ≡ [] → AreDone l (hops_from t e l lid s 0 of_level) c
 
 -- packets of this level have come to the switch on the way: the route from there is the rest of theirs
 abbrev pub IsPassed : Topology → Entries → Way → ℕ → ℕ → ℕ → Type 0
@@ -59,7 +61,11 @@ pub record IsCollectingOn (t : Topology) (e : Entries) (l : LaneTables) (way : W
   pub so_far : IsCollecting t e l way old now marks passed before known
 
 behind_grows : (t : Topology) (e : Entries) (l : LaneTables) (lid s of_level : ℕ) (a b : Collected) → Grows a b → IsBehind t e l lid a s of_level → IsBehind t e l lid b s of_level
-behind_grows t e l lid s of_level a b grows is = record { has = hops_grow l.count (hops_behind t e l lid s of_level) a b grows is.has; good = is.good }
+behind_grows t e l lid s of_level a b grows is = record {
+  has = hops_grow l.count (hops_behind t e l lid s of_level) a b grows is.has;
+  good = is.good;
+  whole = λ none. record { good = (is.whole none).good; has = hops_grow l.count (hops_from t e l lid s 0 of_level) a b grows (is.whole none).has };
+}
 
 pub begins : (t : Topology) (e : Entries) (l : LaneTables) (way : Way) (left : List VirtualChannel) (c : Collected) (marks : List Bool) → left ≡ hops_of t e l way →
     IsFromBoth t e l c → AreMarked t e l way.lid.0 marks c → IsCollectingOn t e l way left c c marks None false
@@ -74,10 +80,26 @@ begins t e l way left c marks all from are = record {
     last = refl;
     before_low = tt;
     room = are.room;
-    marked = λ s at few is. inl (record { has = are.behind s at few is; good = are.good s at few is });
+    marked = λ s at few is. inl (record { has = are.behind s at few is; good = are.good s at few is; whole = λ none. are.whole none s at few is });
     rest = λ is. absurd (false≢true is);
   };
 }
+
+-- without maps of pairs the hops don't depend on the port, and those of the rest are the rest of them
+from_any_port : (t : Topology) (l : LaneTables) (of_level p q : ℕ) (cs : List ℕ) → l.pairs ≡ [] → on_channels t l of_level p cs ≡ on_channels t l of_level q cs
+from_any_port t l of_level p q cs none = same_hops t l of_level p cs none ∙ sym (same_hops t l of_level q cs none)
+
+from_dropped : (t : Topology) (l : LaneTables) (of_level p q n : ℕ) (cs : List ℕ) → l.pairs ≡ [] → on_channels t l of_level q (drop n cs) ≡ drop n (on_channels t l of_level p cs)
+from_dropped t l of_level p q zero cs none = from_any_port t l of_level q p cs none
+from_dropped t l of_level p q (suc n) [] none = refl
+from_dropped t l of_level p q (suc n) (c ∷ cs) none = from_dropped t l of_level (arrival (slice_get t.channels c)) q n cs none
+
+-- from a switch that is marked all is done then
+pub marked_done : (t : Topology) (e : Entries) (l : LaneTables) (way : Way) (marks : List Bool) (c : Collected) → IsWay t e l way → AreMarked t e l way.lid.0 marks c → l.pairs ≡ [] →
+    IsMarkedAt marks way.start.switch.0 way.level → AreDone l (hops_of t e l way) c
+marked_done t e l way marks c is are none marked =
+    subst (λ vs. AreDone l vs c) (from_any_port t l way.level 0 way.start.port (route t e way.start.switch.0 way.lid.0).channels none)
+    (are.whole none way.start.switch.0 way.level is.level marked)
 
 -- the rest of good hops is good
 good_rest : (l : LaneTables) (hops : List VirtualChannel) (n : ℕ) → AreGood l hops → AreGood l (drop n hops)
@@ -121,6 +143,10 @@ module _ (t : Topology) (fabric : IsFabric t) (e : Entries) (l : LaneTables) (la
   behind_at : (k s : ℕ) → (route t e s lid).channels ≡ drop k channels → hops_behind t e l lid s way.level ≡ drop (suc k) hops
   behind_at k s same = ap (λ cs. drop 1 (on_channels t l way.level 0 cs)) same ∙ sym (hops_dropped t l way.level k way.start.port 0 channels)
 
+  -- all from it on
+  whole_at : (k s : ℕ) → (route t e s lid).channels ≡ drop k channels → l.pairs ≡ [] → hops_from t e l lid s 0 way.level ≡ drop k hops
+  whole_at k s same none = ap (λ cs. on_channels t l way.level 0 cs) same ∙ from_dropped t l way.level way.start.port 0 k channels none
+
   -- a switch is passed but once
   passed_once : (j k s : ℕ) (v : VirtualChannel) → j < k → slice_get hops k ≡ Some v → (route t e s lid).channels ≡ drop j channels → (route t e s lid).channels ≡ drop k channels → ⊥
   passed_once j k s v less at a b = omega (
@@ -135,7 +161,12 @@ module _ (t : Topology) (fabric : IsFabric t) (e : Entries) (l : LaneTables) (la
   -- with all hops collected, behind each mark all is
   behind_all : (old now : Collected) (marks : List Bool) (passed : ℕ) (before : Option ℕ) (known : Bool) → IsCollecting t e l way old now marks passed before known → AreDone l hops now →
       AreMarked t e l lid marks now
-  behind_all old now marks passed before known so_far all = record { room = so_far.room; behind = λ s at few is. (each s at few is).has; good = λ s at few is. (each s at few is).good }
+  behind_all old now marks passed before known so_far all = record {
+    room = so_far.room;
+    behind = λ s at few is. (each s at few is).has;
+    good = λ s at few is. (each s at few is).good;
+    whole = λ none s at few is. (each s at few is).whole none;
+  }
     where
       each : (s at : ℕ) → at < 16 → IsMarkedAt marks s at → IsBehind t e l lid now s at
       each s at few is = elim (so_far.marked s at few is) [
@@ -145,6 +176,12 @@ module _ (t : Topology) (fabric : IsFabric t) (e : Entries) (l : LaneTables) (la
             record {
               has = subst (λ vs. HasHops l.count vs now) (sym at_level_is) (has_rest l.count hops (suc passing.1.0) now all.has);
               good = subst (AreGood l) (sym at_level_is) (good_rest l hops (suc passing.1.0) all.good);
+              whole = λ none.
+                  let whole_is : hops_from t e l lid s 0 at ≡ drop passing.1.0 hops = ap (λ n. hops_from t e l lid s 0 n) passing.0 ∙ whole_at passing.1.0 s passing.1.2 none in
+                  record {
+                    good = subst (AreGood l) (sym whole_is) (good_rest l hops passing.1.0 all.good);
+                    has = subst (λ vs. HasHops l.count vs now) (sym whole_is) (has_rest l.count hops passing.1.0 now all.has);
+                  };
             })
       ]
 

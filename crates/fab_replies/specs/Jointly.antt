@@ -1,5 +1,5 @@
 -- The virtual channels that packets and replies use, and the joint dependencies, by number, as they are collected LID by LID.
-use Rattle.std.specs.Prelude.{◌≡◌, ℕ, ◌*◌, ◌<◌, ◌≤◌, List, length, Bool, Contains, Some, slice_get}
+use Rattle.std.specs.Prelude.{◌≡◌, ℕ, ◌*◌, ◌<◌, ◌≤◌, List, [], length, Bool, Contains, Some, slice_get}
 use Rattle.fab_model.specs.declared.rows.SwitchId.{SwitchId}
 use Rattle.fab_model.specs.declared.rows.TerminalRow.{TerminalRow}
 use Rattle.fab_model.specs.Topology.{Topology, lids_of}
@@ -41,16 +41,17 @@ pub record IsFromBoth (t : Topology) (e : Entries) (l : LaneTables) (c : Collect
 abbrev pub AreGood : LaneTables → List VirtualChannel → Type 0
 AreGood l hops = (k : ℕ) (v : VirtualChannel) → slice_get hops k ≡ Some v → v.lane < l.count
 
--- behind each switch and level that are marked the hops are good, and are collected
-pub record AreMarked (t : Topology) (e : Entries) (l : LaneTables) (lid : ℕ) (marks : List Bool) (c : Collected) : Type 0 where
-  pub room : IsRoomFor t marks
-  pub behind : AreBehind t e l lid marks c
-  pub good : (s of_level : ℕ) → of_level < 16 → IsMarkedAt marks s of_level → AreGood l (hops_behind t e l lid s of_level)
-
 -- the hops are good, and are collected
 pub record AreDone (l : LaneTables) (hops : List VirtualChannel) (c : Collected) : Type 0 where
   pub good : AreGood l hops
   pub has : HasHops l.count hops c
+
+-- Behind each switch and level that are marked the hops are good, and are collected; where no pair of ports has a map, so are all from there on.
+pub record AreMarked (t : Topology) (e : Entries) (l : LaneTables) (lid : ℕ) (marks : List Bool) (c : Collected) : Type 0 where
+  pub room : IsRoomFor t marks
+  pub behind : AreBehind t e l lid marks c
+  pub good : (s of_level : ℕ) → of_level < 16 → IsMarkedAt marks s of_level → AreGood l (hops_behind t e l lid s of_level)
+  pub whole : l.pairs ≡ [] → (s of_level : ℕ) → of_level < 16 → IsMarkedAt marks s of_level → AreDone l (hops_from t e l lid s 0 of_level) c
 
 -- the first hop that has a bad lane leaves the switch
 pub record IsFirstBad (t : Topology) (l : LaneTables) (hops : List VirtualChannel) (at : SwitchId) : Type 0 where

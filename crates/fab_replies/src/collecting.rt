@@ -1,8 +1,9 @@
 //! The dependencies of packets and of replies, collected LID by LID.
 //!
 //! Packets and replies to a LID take the same entries. What follows behind a switch depends on the switch and on the
-//! level alone, so for a LID the route from each switch at each level is gone along once, and by each packet or reply
-//! that begins there one hop more: the lane of its first hop depends on the port by which it comes in.
+//! level alone, so for a LID the route from each switch at each level is gone along once. Where pairs of ports have
+//! maps, each packet or reply that begins there takes one hop more: the lane of its first hop depends on the port by
+//! which it comes in.
 ghost use Rattle.std.specs.Prelude.{◌≡◌, ◌<◌, ◌∷◌, [], length, Contains, None, IfOk, OnOk, MatchOption};
 ghost use Rattle.fab_model.specs.Topology.{lids_of};
 ghost use Rattle.fab_model.specs.Connected.{IsConnectedTo};
@@ -176,10 +177,13 @@ fn collect_reply(
     ensures room { OnOk result (IsRoomFor reading.now.fabric marks.new) }
     ensures reply { IfOk result (λ bad. MatchOption bad (HasReply reading.now.fabric reading.now.entries reading.now.lanes lid.0 from.0 dependencies.new) (IsBadReply reading.now.fabric reading.now.entries reading.now.lanes lid.0 from.0)) }
 {
-    match reply_way(reading, home, lid, from) {
-        Some(way) => collect_hops(reading, way, marks, dependencies),
-        None => Ok(None),
+    let Some(way) = reply_way(reading, home, lid, from) else {
+        return Ok(None);
+    };
+    if reading.pairs() == 0 && marks.is_marked(way.start.switch, way.level) {
+        return Ok(None);
     }
+    collect_hops(reading, way, marks, dependencies)
 }
 
 /// Where the reply to a terminal's LID begins that comes from a LID; None where the terminal's switch isn't connected

@@ -75,6 +75,13 @@ impl<'a> Reading<'a> {
         self.lanes.count()
     }
 
+    /// How many pairs of ports have a map.
+    pub(crate) fn pairs(&self) -> u32
+        ensures { result ≡ length self.now.lanes.pairs }
+    {
+        self.lanes.pairs()
+    }
+
     /// How many virtual channels there are: the channels times the lane count.
     pub(crate) fn virtual_channels(&self) -> u32
         ensures { result ≡ length self.now.fabric.channels * self.now.lanes.count }
