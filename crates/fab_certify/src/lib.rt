@@ -20,6 +20,3 @@ pub use laws::{
     refusal_is_unsound,
 };
 pub use numbers::set_numbers;
-
-#[cfg(test)]
-mod tests;

@@ -13,9 +13,6 @@ ghost use Rattle.fab_tables.specs.Certified.{Reaches, IsCertified};
 ghost use Rattle.fab_tables.specs.Verdicts.{IsVerdict};
 ghost use Rattle.fab_check.specs.Free.{IsFreeOfDeadlock};
 
-#[cfg(test)]
-mod tests;
-
 use fab_model::{Fabric, SwitchId};
 use fab_tables::{
     Components, LaneFaults, Marks, Plan, Starts, Verdict, first_lane_fault, first_unreached,

@@ -23,6 +23,3 @@ pub use dep::{Added, Dep, Mark};
 pub use laws::{closes_by_walk, closes_or_not, rising_is_acyclic, subsets_are_acyclic};
 pub use layers::Layers;
 pub use steps::Steps;
-
-#[cfg(test)]
-mod tests;

@@ -19,6 +19,3 @@ pub use laws::{
     broken_or_refused, dfsssp_is_certified, dfsssp_plan_or_refusal_exists, lanes_stay_below,
     one_broken, one_dfsssp_plan, one_needs_lane, one_step,
 };
-
-#[cfg(test)]
-mod tests;

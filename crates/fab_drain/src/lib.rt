@@ -7,8 +7,6 @@ mod laws;
 mod packet;
 mod packet_hops;
 mod state;
-#[cfg(test)]
-mod tests;
 mod turns;
 
 pub use filling::fill;

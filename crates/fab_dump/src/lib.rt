@@ -19,8 +19,6 @@ mod reader;
 mod rows;
 mod statements;
 mod table_rows;
-#[cfg(test)]
-mod tests;
 mod write;
 mod write_blocks;
 

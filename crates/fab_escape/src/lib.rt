@@ -13,6 +13,3 @@ pub use laws::{
     escape_tree_is_tree, forest_exists, no_next_channel, one_forest, roots_tell_components,
     routes_stay_in_tree,
 };
-
-#[cfg(test)]
-mod tests;

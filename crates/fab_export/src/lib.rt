@@ -13,8 +13,6 @@ mod port_guids;
 mod reached;
 mod source_levels;
 mod tables;
-#[cfg(test)]
-mod tests;
 mod unfit_guids;
 mod unfit_lanes;
 mod unfit_routes;

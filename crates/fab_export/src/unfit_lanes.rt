@@ -70,7 +70,7 @@ fn has_first_map(lanes: &Lanes, switch: SwitchId) -> bool
     true
 }
 
-/// The least level in use whose lane isn't below the lane count, and below 8.
+/// The least level in use whose lane isn't below the lane count, or below 8 where that is less.
 fn high_lane(lanes: &Lanes, used: &[bool; 16]) -> Option<Unfit>
     requires { 0 < lanes.now.switches }
     ensures { (t : Topology) (e : Entries) → used.now ≡ map (is_in_use t e lanes.now) all_levels → result ≡ high_lane t e lanes.now }

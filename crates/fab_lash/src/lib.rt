@@ -18,6 +18,3 @@ pub use laws::{
 };
 pub use layered::{LashFault, Layered};
 pub use layered_plan::lash;
-
-#[cfg(test)]
-mod tests;

@@ -24,6 +24,3 @@ pub use laws::{
     one_planting, one_spread, planted_reaches, planting_exists, read_groups_are_known,
     spread_exists,
 };
-
-#[cfg(test)]
-mod tests;

@@ -17,8 +17,6 @@ mod indexes;
 mod laws;
 mod raw;
 mod rows;
-#[cfg(test)]
-mod tests;
 
 pub use desc::Desc;
 pub use fabric::Fabric;

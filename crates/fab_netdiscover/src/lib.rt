@@ -32,6 +32,3 @@ pub use fault::{BadKind, ReadFault};
 pub use laws::{texts_have_no_own_cable, written_is_built, written_is_read};
 pub use reading::read;
 pub use writing::write;
-
-#[cfg(test)]
-mod tests;

@@ -28,8 +28,6 @@ mod room;
 mod settled;
 mod settling;
 mod swapping;
-#[cfg(test)]
-mod tests;
 mod trying;
 mod weighing;
 

@@ -15,6 +15,3 @@ pub use failed_list::read_failed;
 pub use fault::{FailedFault, RepairFault};
 pub use laws::{kept_stay, nothing_failed, one_repair, repair_exists};
 pub use repaired::{Repaired, repair};
-
-#[cfg(test)]
-mod tests;

@@ -13,6 +13,3 @@ pub use laws::{
     ring_is_deadlocked, same_level_is_packet,
 };
 pub use replied::Replied;
-
-#[cfg(test)]
-mod tests;

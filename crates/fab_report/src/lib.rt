@@ -12,8 +12,6 @@ mod random;
 mod recipe;
 mod rows;
 mod shown;
-#[cfg(test)]
-mod tests;
 
 pub use laws::{generated_has_no_own_cable, generated_is_fabric, hops_are_few, load_is_small};
 pub use lines::Lines;

@@ -27,6 +27,3 @@ pub use layers::levels;
 pub use numbering::{Numbering, levels_or_ring};
 pub use ring::Ring;
 pub use rings::first_ring;
-
-#[cfg(test)]
-mod tests;

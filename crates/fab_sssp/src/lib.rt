@@ -5,8 +5,6 @@ mod laws;
 mod laying;
 mod passing;
 mod search;
-#[cfg(test)]
-mod tests;
 mod weights;
 
 pub use laws::{

@@ -9,8 +9,6 @@ mod costs;
 mod failures;
 mod laws;
 mod rows;
-#[cfg(test)]
-mod tests;
 
 pub use laws::{failures_are_known, one_sweep, sweep_exists};
 pub use rows::{SweepRow, Swept, sweep};

@@ -19,8 +19,6 @@ mod reaching;
 mod route_hops;
 mod starts;
 mod tables;
-#[cfg(test)]
-mod tests;
 mod tree;
 mod verdict;
 

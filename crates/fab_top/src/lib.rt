@@ -10,22 +10,16 @@ mod engines;
 mod export_texts;
 mod fault_texts;
 mod files;
-#[cfg(test)]
-mod forged_tests;
 mod group_texts;
 mod guid_list;
 mod laned;
 mod laws;
 mod outcome;
 mod outputs;
-#[cfg(test)]
-mod outside_tests;
 mod reply_texts;
 mod report_texts;
 mod routing;
 mod sweep_texts;
-#[cfg(test)]
-mod tests;
 mod texts;
 mod top_call;
 mod up_down;

@@ -13,6 +13,3 @@ mod walks;
 pub use changes::transit;
 pub use laws::{answer_exists, numbers_are_safe, one_answer};
 pub use mixed::{Mixed, Side};
-
-#[cfg(test)]
-mod tests;

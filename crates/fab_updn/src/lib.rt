@@ -17,6 +17,3 @@ pub use laws::{
     unnamed_never_refused, up_down_reaches,
 };
 pub use up_down::{UpdnFault, updn};
-
-#[cfg(test)]
-mod tests;

@@ -1,4 +1,0 @@
-use Rattle.fab_depgraph.proofs.tests.the_last_addition_is_taken_back.Given as goal
-
-abbrev pub ghosts-add_twice : goal.ghosts-add_twice
-ghosts-add_twice g a = record { name = a.blank.name; parts = a.blank.parts }

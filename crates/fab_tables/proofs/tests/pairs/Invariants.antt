@@ -1,5 +1,0 @@
-use Rattle.std.proofs.Common.{◌<◌}
-use Rattle.fab_tables.proofs.tests.pairs.Given as goal
-
-abbrev pub invariant-loop-from_port : goal.invariant-loop-from_port
-invariant-loop-from_port g l = 0 < l.lanes.switches
